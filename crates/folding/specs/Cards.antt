@@ -1,0 +1,1 @@
+-- The cards P1 to P9.

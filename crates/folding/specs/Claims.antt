@@ -1,0 +1,109 @@
+-- What is claimed of a walker, over every input. `folded` meets all of it (proofs/); each wrong walker of document 01 c fails the part
+-- named there (proofs/Wrong).
+use mathlib.Core.Path.{_≡_}
+use mathlib.Core.Logic.{_↔_, _≢_, _⊎_}
+use mathlib.Core.Bool.{Bool, true, false, cond}
+use mathlib.Core.List.{List, [], _∷_, reverse, IsPrefix}
+use Prim.Native.Nat.{ℕ, zero, suc, _+_, _*_, _≤_, _<_}
+use lib.ListN.{length, drop}
+use lib.Dec.{eqb, ltb}
+use Rattle.lists.specs.Words.{cleared}
+use Rattle.graphs.specs.Graph.{Reached, met}
+use Rattle.graphs.specs.Events.{History, Event, advance-nontree, count, words}
+use Rattle.graphs.specs.Depth.{DepthFirst}
+use Rattle.graphs.specs.Results.{marksLeft}
+use Rattle.graphs.specs.Image.{Image, graphOf}
+use Rattle.folding.specs.Machine.{Config, finished, rolledBack, canStep}
+use Rattle.folding.specs.Calls.{Reason, ended, spent, stuck, Answer, ran, taken, refused, Reply, refusing, over, Call, runFor, single, areaOf, numberOf, perform, runNumber, stepNumber, openNumber, unopened}
+use Rattle.folding.specs.Lines.{Walker, Line, lineA, lineB}
+
+-- ---- demand 1: the table's conditions
+-- By the number of its first true condition, a call is refused and changes nothing, or is not refused.
+abbrev pub Judged : ℕ → Config → List ℕ → Reply → Type 0
+Judged zero w area r = (k : ℕ) → r .answer ≢ refused k
+Judged (suc k) w area r = r ≡ refusing (suc k) w area
+
+-- A call leaves n, m and start, the lengths of all areas, and every word past the stated lengths; of the event area only the words of
+-- its events change.
+pub record Confined (w : Config) (area : List ℕ) (r : Reply) : Type 0 where
+  pub same-n : r .config .n ≡ w .n
+  pub same-m : r .config .m ≡ w .m
+  pub same-start : r .config .start ≡ w .start
+  pub after-length : length (r .config .after) ≡ length (w .after)
+  pub tail-length : length (r .config .tail) ≡ length (w .tail)
+  pub marks-length : length (r .config .marks) ≡ length (w .marks)
+  pub after-past : drop (w .n + w .m) (r .config .after) ≡ drop (w .n + w .m) (w .after)
+  pub tail-past : drop (w .m) (r .config .tail) ≡ drop (w .m) (w .tail)
+  pub marks-past : drop (w .n + w .m) (r .config .marks) ≡ drop (w .n + w .m) (w .marks)
+  pub area-length : length (r .area) ≡ length area
+  pub area-past : drop (length (words (r .events))) (r .area) ≡ drop (length (words (r .events))) area
+
+pub record Demand1 (W : Walker) : Type 0 where
+  pub opening : (g : Image) (start : ℕ) (marks area : List ℕ) → Judged (openNumber g start marks area) (unopened g start marks) area (W .opens g start marks area)
+  pub call : (w : Config) (c : Call) → Judged (numberOf w c) w (areaOf c) (W .serves w c)
+  pub opening-confined : (g : Image) (start : ℕ) (marks area : List ℕ) → Confined (unopened g start marks) area (W .opens g start marks area)
+  pub call-confined : (w : Config) (c : Call) → Confined w (areaOf c) (W .serves w c)
+
+-- ---- the moves
+-- A single step that is not refused is the step of the definition.
+abbrev pub StepClaim : Walker → Type 0
+StepClaim W = (w : Config) (area : List ℕ) → stepNumber w area ≡ 0 → W .serves w (single area) ≡ perform w (single area)
+
+-- ---- the run's tests
+-- Why a run stops: by its tests, in their order.
+abbrev pub stopReason : ℕ → Reply → Reason
+stopReason k r = cond (over (r .config)) ended (cond (eqb (r .steps) k) spent stuck)
+
+pub record Tested (k : ℕ) (r : Reply) : Type 0 where
+  pub reason : r .answer ≡ ran (stopReason k r)
+  pub budget : r .steps ≤ k
+  pub jammed : r .answer ≡ ran stuck → canStep (r .config) ≡ false
+
+abbrev pub RunClaim : Walker → Type 0
+RunClaim W = (w : Config) (k : ℕ) (area : List ℕ) → runNumber w k area ≡ 0 → Tested k (W .serves w (runFor k area))
+
+-- ---- demand 2: events and labels
+-- The flag that at least one nontree reference was met.
+abbrev pub circularOf : History → ℕ
+circularOf h = cond (ltb 0 (count advance-nontree h)) 1 0
+
+pub record Labelling (g : Image) (start : ℕ) (marks : List ℕ) (l : Line) : Type 0 where
+  pub events : l .config .phase ≡ finished → DepthFirst (graphOf g) [] start (reverse (l .events))
+  pub labels : l .config .phase ≡ finished → l .config .marks ≡ marksLeft (g .n + g .m) (reverse (l .events)) marks
+  pub no-labels : l .config .phase ≡ rolledBack → l .config .marks ≡ cleared (g .n + g .m) marks
+  pub circular : l .config .circular ≡ circularOf (reverse (l .events))
+
+pub record Demand2 (W : Walker) : Type 0 where
+  pub labelling : (g : Image) (start : ℕ) (marks area : List ℕ) → openNumber g start marks area ≡ 0 → (cs : List Call) → Labelling g start marks (lineB W g start marks area cs)
+  pub ending : (g : Image) (start : ℕ) (marks area : List ℕ) → openNumber g start marks area ≡ 0 → (k : ℕ) (room : List ℕ) → 2 * g .m + g .n ≤ k → 6 * k ≤ length room
+      → lineB W g start marks area (runFor k room ∷ []) .config .phase ≡ finished
+
+-- ---- demand 3: the agreement of the two lines
+-- No call was refused with 8, and no run said stuck.
+abbrev pub Faultless : List Answer → Type 0
+Faultless [] = Unit {0}
+Faultless (ran ended ∷ rest) = Faultless rest
+Faultless (ran spent ∷ rest) = Faultless rest
+Faultless (ran stuck ∷ rest) = ⊥
+Faultless (taken ∷ rest) = Faultless rest
+Faultless (refused k ∷ rest) = (k ≢ 8) × Faultless rest
+
+-- Line B, after a list of calls, beside line A; vs are the elements reached.
+pub record Agrees (g : Image) (start : ℕ) (vs : List ℕ) (l : Line) : Type 0 where
+  -- B's events are the first of A's, in order.
+  pub first : IsPrefix (l .events) (lineA g start)
+  -- While no roll-back order was taken, B has ended exactly when its steps are twice the references met plus the elements reached.
+  pub ends : l .rolling ≡ false → (l .config .phase ≡ finished) ↔ (l .steps ≡ 2 * met (graphOf g) vs + length vs)
+  -- Its events are then all of A's.
+  pub all : l .rolling ≡ false → l .config .phase ≡ finished → l .events ≡ lineA g start
+  -- Once one was taken, the steps since the first are at most the references met plus the elements reached.
+  pub bound : l .rolling ≡ true → l .since ≤ met (graphOf g) vs + length vs
+  -- They are fewer while B is not rolled back.
+  pub below : l .rolling ≡ true → l .config .phase ≢ rolledBack → l .since < met (graphOf g) vs + length vs
+  -- Whenever B has ended or is rolled back, every link is as loaded.
+  pub restored : (l .config .phase ≡ finished) ⊎ (l .config .phase ≡ rolledBack) → (l .config .after ≡ g .after) × (l .config .tail ≡ g .tail)
+  pub faultless : Faultless (l .answers)
+
+-- One claim about the whole list: every sound profile, all areas long enough, every list of calls.
+abbrev pub Agreement : Walker → Type 0
+Agreement W = (g : Image) (start : ℕ) (marks area : List ℕ) → openNumber g start marks area ≡ 0 → (vs : List ℕ) → Reached (graphOf g) [] start vs → (cs : List Call) → Agrees g start vs (lineB W g start marks area cs)

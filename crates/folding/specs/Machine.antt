@@ -1,0 +1,136 @@
+-- The folded depth-first search, step by step (document 01, "The folded depth-first walk"; its moves are steps here).
+use mathlib.Core.Bool.{Bool, true, false, _&&_, not}
+use mathlib.Core.List.{List, [], _∷_}
+use Prim.Native.Nat.{ℕ, suc, _+_}
+use lib.Dec.{eqb, ltb, leb}
+use Rattle.lists.specs.Words.{at, put, cleared}
+use Rattle.graphs.specs.Nodes.{isVertex, isEdge, isLink, isNode}
+use Rattle.graphs.specs.Events.{Event, event, label, advance-tree, advance-nontree, retreat-nontree, retreat-tree, scan}
+
+-- A state, with the links and marks that it works on: v is the element being scanned, e the reference next to traverse or 0,
+-- f the trailer, `next` the next label number.
+pub record Config : Type 0 where
+  pub n : ℕ
+  pub m : ℕ
+  pub start : ℕ
+  pub v : ℕ
+  pub e : ℕ
+  pub f : ℕ
+  pub phase : ℕ
+  pub next : ℕ
+  pub circular : ℕ
+  pub after : List ℕ
+  pub tail : List ℕ
+  pub marks : List ℕ
+
+-- Phases. Document 01: walking, restoring, ended, winding back, withdrawn, accepted.
+abbrev pub walking : ℕ
+walking = 1
+
+abbrev pub restoring : ℕ
+restoring = 2
+
+abbrev pub finished : ℕ
+finished = 3
+
+abbrev pub rollingBack : ℕ
+rollingBack = 4
+
+abbrev pub rolledBack : ℕ
+rolledBack = 5
+
+abbrev pub accepted : ℕ
+accepted = 6
+
+-- t(r).
+abbrev pub target : Config → ℕ → ℕ
+target w r = at (w .n) (w .tail) r
+
+-- The steps. Document 01's moves: Tree; Nontree; Turn is relink; Close is retreat, or finish where f is 0; Close while winding
+-- is undo-tree, or undo-open where f is 0.
+pub data Step : Type 0 where
+  tree nontree relink retreat finish undo-tree undo-open : Step
+
+-- The step that comes: by whether the search goes forward, t(e) is unmarked, f is a reference, f is 0, and it is rolling back.
+abbrev pub pickStep : Bool → Bool → Bool → Bool → Bool → Step
+pickStep true true c d b = tree
+pickStep true false c d b = nontree
+pickStep false a true d b = relink
+pickStep false a false true false = finish
+pickStep false a false true true = undo-open
+pickStep false a false false false = retreat
+pickStep false a false false true = undo-tree
+
+unfoldable pub stepOf : Config → Step
+stepOf w =
+    pickStep
+    (eqb (w .phase) walking && not (eqb (w .e) 0))
+    (eqb (at 0 (w .marks) (target w (w .e))) 0)
+    (ltb (w .n) (w .f))
+    (eqb (w .f) 0)
+    (eqb (w .phase) rollingBack)
+
+-- The after words once a(v) has become e, the first store of a tree step and of a close.
+abbrev pub closed : Config → List ℕ
+closed w = put 0 (w .after) (w .v) (w .e)
+
+-- a(f), read after that store.
+abbrev pub upward : Config → ℕ
+upward w = at 0 (closed w) (w .f)
+
+-- The words that a step reads are in kind, each as the step would read it.
+unfoldable pub fits : Config → Step → Bool
+fits w tree = isVertex (w .n) (target w (w .e)) && (leb (w .next) (w .n) && isLink (w .n) (w .m) (at 0 (closed w) (target w (w .e))))
+fits w nontree = isVertex (w .n) (target w (w .e)) && isLink (w .n) (w .m) (at 0 (w .after) (w .e))
+fits w relink = isNode (w .n) (w .m) (at 0 (w .after) (w .f))
+fits w retreat = isEdge (w .n) (w .m) (upward w) && (isNode (w .n) (w .m) (target w (upward w)) && isLink (w .n) (w .m) (at 0 (closed w) (upward w)))
+fits w finish = eqb (w .v) (w .start)
+fits w undo-tree = isEdge (w .n) (w .m) (upward w) && isNode (w .n) (w .m) (target w (upward w))
+fits w undo-open = eqb (w .v) (w .start)
+
+-- Where a step leads, and the events it emits.
+pub record Stepped : Type 0 where
+  pub config : Config
+  pub events : List Event
+
+-- A relink ends the walking; rolling back goes on.
+abbrev pub relinked : Bool → ℕ
+relinked true = rollingBack
+relinked false = restoring
+
+unfoldable pub enact : Config → Step → Stepped
+enact w tree = record {
+  config = record { n = w .n; m = w .m; start = w .start; v = target w (w .e); e = at 0 (closed w) (target w (w .e)); f = w .v; phase = w .phase; next = suc (w .next); circular = w .circular; after = closed w; tail = put (w .n) (w .tail) (w .e) (w .f); marks = put 0 (w .marks) (target w (w .e)) (w .next) };
+  events = event advance-tree (w .e) (w .v) ∷ event label 0 (target w (w .e)) ∷ [];
+}
+enact w nontree = record {
+  config = record { n = w .n; m = w .m; start = w .start; v = w .v; e = at 0 (w .after) (w .e); f = w .e; phase = w .phase; next = w .next; circular = 1; after = put 0 (w .after) (w .e) (w .f); tail = w .tail; marks = w .marks };
+  events = event advance-nontree (w .e) (w .v) ∷ event retreat-nontree (w .e) (w .v) ∷ [];
+}
+enact w relink = record {
+  config = record { n = w .n; m = w .m; start = w .start; v = w .v; e = w .f; f = at 0 (w .after) (w .f); phase = relinked (eqb (w .phase) rollingBack); next = w .next; circular = w .circular; after = put 0 (w .after) (w .f) (w .e); tail = w .tail; marks = w .marks };
+  events = [];
+}
+enact w retreat = record {
+  config = record { n = w .n; m = w .m; start = w .start; v = w .f; e = at 0 (closed w) (upward w); f = upward w; phase = walking; next = w .next; circular = w .circular; after = put 0 (closed w) (upward w) (target w (upward w)); tail = put (w .n) (w .tail) (upward w) (w .v); marks = w .marks };
+  events = event scan 0 (w .v) ∷ event retreat-tree (upward w) (w .f) ∷ [];
+}
+enact w finish = record {
+  config = record { n = w .n; m = w .m; start = w .start; v = w .v; e = w .e; f = w .f; phase = finished; next = w .next; circular = w .circular; after = closed w; tail = w .tail; marks = w .marks };
+  events = event scan 0 (w .v) ∷ [];
+}
+enact w undo-tree = record {
+  config = record { n = w .n; m = w .m; start = w .start; v = w .f; e = upward w; f = target w (upward w); phase = w .phase; next = w .next; circular = w .circular; after = closed w; tail = put (w .n) (w .tail) (upward w) (w .v); marks = w .marks };
+  events = [];
+}
+enact w undo-open = record {
+  config = record { n = w .n; m = w .m; start = w .start; v = w .v; e = w .e; f = w .f; phase = rolledBack; next = w .next; circular = w .circular; after = closed w; tail = w .tail; marks = cleared (w .n) (w .marks) };
+  events = [];
+}
+
+-- The step to come is in kind.
+abbrev pub canStep : Config → Bool
+canStep w = fits w (stepOf w)
+
+abbrev pub step : Config → Stepped
+step w = enact w (stepOf w)

@@ -1,0 +1,1 @@
+-- The wrong walkers of document 01 c. Each is refuted in proofs/Wrong.

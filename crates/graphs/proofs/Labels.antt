@@ -1,0 +1,63 @@
+-- Lists of labelled vertices: each a vertex, none twice; and what it means that one such list has grown out of another.
+-- Growth is transitive, and whatever is new in it has all its edges' targets labelled.
+use mathlib.Core.Path.{_≡_, refl, sym, ap, _∙_, subst}
+use mathlib.Core.Logic.{_⊎_, inl, inr}
+use mathlib.Core.List.{List, [], _∷_}
+use Prim.Native.Nat.{ℕ, zero, suc, _+_, _≤_, _<_}
+use native.Mathlib.Omega.{arith}
+use lib.ListN.{length}
+use Rattle.lists.specs.Members.{Mem, here, there, NoDup}
+use Rattle.lists.proofs.Members.{mem-nil, mem-cons, each-cons, pigeonhole}
+use Rattle.graphs.specs.Nodes.{Vertex}
+use Rattle.graphs.specs.Graph.{Graph}
+
+pub record Labels (n : ℕ) (ls : List ℕ) : Type 0 where
+  pub once : NoDup ls
+  pub all : (x : ℕ) → Mem x ls → Vertex n x
+
+pub label-ok : (n u : ℕ) (ls : List ℕ) → Vertex n u → (Mem u ls → ⊥) → Labels n ls → Labels n (u ∷ ls)
+label-ok n u ls hu new L = record { once = (new, L .once); all = each-cons (Vertex n) u ls hu (L .all) }
+
+pub labels-few : (n : ℕ) (ls : List ℕ) → Labels n ls → length ls ≤ n
+labels-few n ls L = pigeonhole 0 n ls (L .once) (λ x m. let k = L .all x m in (k .0, omega arith))
+
+-- One vertex more does not fit where all are labelled.
+pub labels-full : {A : Type 0} (n u : ℕ) (ls : List ℕ) → Vertex n u → (Mem u ls → ⊥) → Labels n ls → n ≤ length ls → A
+labels-full n u ls hu new L h = absurd (let k : suc (length ls) ≤ n = labels-few n (u ∷ ls) (label-ok n u ls hu new L) in omega arith)
+
+-- Every edge out of x leads to a labelled vertex.
+abbrev pub Done : Graph → List ℕ → ℕ → Type 0
+Done G ls x = (r : ℕ) → Mem r (G .out x) → Mem (G .to r) ls
+
+pub record Grown (G : Graph) (p q : List ℕ) : Type 0 where
+  pub keeps : (x : ℕ) → Mem x p → Mem x q
+  pub labels : Labels (G .size) q
+  pub longer : length p ≤ length q
+  pub closes : (x : ℕ) → Mem x q → Mem x p ⊎ Done G q x
+
+module _ (G : Graph) where
+  pub grown-refl : (p : List ℕ) → Labels (G .size) p → Grown G p p
+  grown-refl p L = record { keeps = λ x m. m; labels = L; longer = omega arith; closes = λ x m. inl m }
+
+  pub grown-trans : (p q r : List ℕ) → Grown G p q → Grown G q r → Grown G p r
+  grown-trans p q r a b = record { keeps = λ x m. b .keeps x (a .keeps x m); labels = b .labels; longer = omega (arith, a .longer, b .longer); closes = λ x m. go x (b .closes x m) }
+    where
+      on : (x : ℕ) → Mem x p ⊎ Done G q x → Mem x p ⊎ Done G r x
+      on x (inl m) = inl m
+      on x (inr d) = inr (λ e m. b .keeps (G .to e) (d e m))
+
+      go : (x : ℕ) → Mem x q ⊎ Done G r x → Mem x p ⊎ Done G r x
+      go x (inl m) = on x (a .closes x m)
+      go x (inr d) = inr d
+
+  -- u was labelled, the list has grown to q, and all edges out of u lead to labelled vertices: so it has grown from before u.
+  pub grown-label : (u : ℕ) (p q : List ℕ) → Grown G (u ∷ p) q → Done G q u → Grown G p q
+  grown-label u p q a d = record { keeps = λ x m. a .keeps x (there m); labels = a .labels; longer = omega (arith, a .longer); closes = λ x m. go x (a .closes x m) }
+    where
+      at-u : (x : ℕ) → (x ≡ u) ⊎ Mem x p → Mem x p ⊎ Done G q x
+      at-u x (inl e) = inr (subst (Done G q) (sym e) d)
+      at-u x (inr m) = inl m
+
+      go : (x : ℕ) → Mem x (u ∷ p) ⊎ Done G q x → Mem x p ⊎ Done G q x
+      go x (inl m) = at-u x (mem-cons m)
+      go x (inr c) = inr c

@@ -1,0 +1,4 @@
+pub mod Nodes
+pub mod Sound
+pub mod Labels
+pub mod Recorder

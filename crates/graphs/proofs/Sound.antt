@@ -1,0 +1,1 @@
+-- What the conditions of an image come to, as proofs use it: `Sound`, from the tests.

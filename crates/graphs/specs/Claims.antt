@@ -1,0 +1,61 @@
+-- What is claimed of the two searches (demand 2), as types; proofs/ has the theorems of these names.
+use mathlib.Core.Path.{_≡_}
+use mathlib.Core.Logic.{_↔_}
+use mathlib.Core.List.{List, [], reverse}
+use Prim.Native.Nat.{ℕ, _+_, _*_, _≤_}
+use lib.ListN.{length}
+use Rattle.lists.specs.Members.{Mem, NoDup}
+use Rattle.lists.specs.Counts.{countIn, sumOf}
+use Rattle.graphs.specs.Nodes.{Vertex}
+use Rattle.graphs.specs.Graph.{Graph, Closed, Reached, met}
+use Rattle.graphs.specs.Events.{History, label, advance-tree, advance-nontree, retreat-tree, retreat-nontree, scan, traverse, labelled, scanned, traversed, count, tally, words}
+use Rattle.graphs.specs.Depth.{DepthFirst}
+use Rattle.graphs.specs.Breadth.{BreadthFirst}
+use Rattle.graphs.specs.Search.{depthFirst, breadthFirst}
+use Rattle.graphs.specs.Image.{Image, graphOf}
+use Rattle.graphs.specs.Refusals.{Lent, searchNumber}
+
+-- A search may begin: a graph, vertices labelled beforehand, and a start that is not among them.
+pub record Ready (G : Graph) (before : List ℕ) (start : ℕ) : Type 0 where
+  pub closed : Closed G
+  pub vertices : (x : ℕ) → Mem x before → Vertex (G .size) x
+  pub once : NoDup before
+  pub start-vertex : Vertex (G .size) start
+  pub start-fresh : Mem start before → ⊥
+
+-- Every element reachable from the start is labelled, once, and scanned, once, and no other; of each element labelled, every
+-- reference is traversed as often as it stands on the element's list, and no other.
+pub record Complete (G : Graph) (before : List ℕ) (start : ℕ) (h : History) : Type 0 where
+  pub labels : Reached G before start (labelled h)
+  pub scans : Reached G before start (scanned h)
+  pub edges : (r : ℕ) → countIn r (traversed h) ≡ sumOf (λ u. countIn r (G .out u)) (labelled h)
+
+-- Depth-first: there is one search, the executable one; it is complete, and each advance has its retreat.
+pub record DepthClaim (G : Graph) (before : List ℕ) (start : ℕ) : Type 0 where
+  pub one : (h : History) → DepthFirst G before start h ↔ (h ≡ depthFirst G before start)
+  pub complete : Complete G before start (depthFirst G before start)
+  pub advances : count advance-tree (depthFirst G before start) + count advance-nontree (depthFirst G before start) ≡ met G (labelled (depthFirst G before start))
+  pub tree-pairs : count advance-tree (depthFirst G before start) ≡ count retreat-tree (depthFirst G before start)
+  pub nontree-pairs : count advance-nontree (depthFirst G before start) ≡ count retreat-nontree (depthFirst G before start)
+
+-- Breadth-first: there is one search, the executable one; it is complete, and scans in the order of labelling.
+pub record BreadthClaim (G : Graph) (before : List ℕ) (start : ℕ) : Type 0 where
+  pub one : (h : History) → BreadthFirst G before start h ↔ (h ≡ breadthFirst G before start)
+  pub complete : Complete G before start (breadthFirst G before start)
+  pub in-order : scanned (breadthFirst G before start) ≡ labelled (breadthFirst G before start)
+  pub traverses : count traverse (breadthFirst G before start) ≡ met G (labelled (breadthFirst G before start))
+
+abbrev pub DepthFirstClaim : Type 0
+DepthFirstClaim = (G : Graph) (before : List ℕ) (start : ℕ) → Ready G before start → DepthClaim G before start
+
+abbrev pub BreadthFirstClaim : Type 0
+BreadthFirstClaim = (G : Graph) (before : List ℕ) (start : ℕ) → Ready G before start → BreadthClaim G before start
+
+-- Of a sound profile, the events of either search fit 6 (n + m) words.
+abbrev pub RoomClaim : Type 0
+RoomClaim = (g : Image) (start : ℕ) (areas : List Lent) → searchNumber g start areas ≡ 0
+    → (length (words (reverse (depthFirst (graphOf g) [] start))) ≤ 6 * (g .n + g .m)) × (length (words (reverse (breadthFirst (graphOf g) [] start))) ≤ 6 * (g .n + g .m))
+
+-- The seven counts add up to the number of events.
+abbrev pub TallyClaim : Type 0
+TallyClaim = (h : History) → sumOf (λ k. k) (tally h) ≡ length h

@@ -1,0 +1,35 @@
+-- Linked images (document 01, "Images").
+use mathlib.Core.List.{List, [], _∷_, _++_}
+use Prim.Native.Nat.{ℕ, zero, suc}
+use Rattle.lists.specs.Words.{at}
+use Rattle.graphs.specs.Graph.{Graph}
+
+-- The after area: for an element its first reference, for a reference the next one on the same list, 0 at the end.
+-- The tail area: the element that each reference leads to.
+pub record Image : Type 0 where
+  pub n : ℕ
+  pub m : ℕ
+  pub after : List ℕ
+  pub tail : List ℕ
+
+-- The references from x on, at most k of them.
+abbrev pub chain : ℕ → List ℕ → ℕ → List ℕ
+chain zero after x = []
+chain (suc k) after zero = []
+chain (suc k) after (suc y) = suc y ∷ chain k after (at 0 after (suc y))
+
+-- The list of u. In a sound image it has at most m references; one more is looked for, so that a ring does not pass for a list.
+unfoldable pub edgesOf : Image → ℕ → List ℕ
+edgesOf g u = chain (suc (g .m)) (g .after) (at 0 (g .after) u)
+
+-- The element that r leads to.
+abbrev pub to : Image → ℕ → ℕ
+to g r = at (g .n) (g .tail) r
+
+abbrev pub graphOf : Image → Graph
+graphOf g = record { size = g .n; out = edgesOf g; to = to g }
+
+-- The lists of the elements 1 to k, one after the other.
+abbrev pub listsTo : Image → ℕ → List ℕ
+listsTo g zero = []
+listsTo g (suc k) = listsTo g k ++ edgesOf g (suc k)

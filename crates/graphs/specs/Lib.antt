@@ -1,0 +1,11 @@
+pub mod Nodes
+pub mod Graph
+pub mod Events
+pub mod Depth
+pub mod Breadth
+pub mod Search
+pub mod Results
+pub mod Image
+pub mod ArrayForm
+pub mod Refusals
+pub mod Claims

@@ -1,0 +1,96 @@
+-- The conditions of document 01's table "Turned back" that need no state, and the order in which a call meets them.
+use mathlib.Core.Bool.{Bool, false, cond, not, _||_}
+use mathlib.Core.List.{List, [], _∷_, _++_}
+use Prim.Native.Nat.{ℕ, _+_, _*_}
+use lib.Dec.{eqb, ltb, leb}
+use lib.ListN.{length}
+use Rattle.lists.specs.Counts.{countIn, allTo}
+use Rattle.lists.specs.Words.{at}
+use Rattle.graphs.specs.Nodes.{isVertex, isLink}
+use Rattle.graphs.specs.Image.{Image, to, listsTo}
+use Rattle.graphs.specs.ArrayForm.{ArrayForm, inOrder}
+
+-- A call is refused with this number where the condition is true.
+pub data Refusal : Type 0 where
+  refuse : ℕ → Bool → Refusal
+
+-- The number of the first condition that is true; 0 where none is.
+abbrev pub firstOf : List Refusal → ℕ
+firstOf [] = 0
+firstOf (refuse k b ∷ cs) = cond b k (firstOf cs)
+
+-- 1: n is 0 or over 1,000.
+abbrev pub verticesOut : ℕ → Bool
+verticesOut n = eqb n 0 || ltb 1000 n
+
+-- 2: m is over 4,000.
+abbrev pub edgesOut : ℕ → Bool
+edgesOut m = ltb 4000 m
+
+-- A lent area: the words stated, and the words it has.
+pub data Lent : Type 0 where
+  lent : ℕ → List ℕ → Lent
+
+-- 3: a lent area is shorter than stated.
+abbrev pub short : List Lent → Bool
+short [] = false
+short (lent stated area ∷ others) = ltb (length area) stated || short others
+
+-- 4: the start, or a queried element, is not in 1 to n.
+abbrev pub vertexOut : ℕ → ℕ → Bool
+vertexOut n x = not (isVertex n x)
+
+-- 5: an after word is neither 0 nor a reference; a first position breaks its rule.
+abbrev pub afterOut : Image → Bool
+afterOut g = not (allTo (λ x. isLink (g .n) (g .m) (at 0 (g .after) x)) (g .n + g .m))
+
+abbrev pub firstOut : ArrayForm → Bool
+firstOut a = not (inOrder a)
+
+-- 6: a tail is not in 1 to n.
+abbrev pub tailOut : ℕ → ℕ → List ℕ → Bool
+tailOut n m tails = not (allTo (λ k. isVertex n (at 0 tails k)) m)
+
+-- 7: a reference is not on exactly one list, once.
+abbrev pub listOut : Image → Bool
+listOut g = not (allTo (λ k. eqb (countIn (g .n + k) (listsTo g (g .n))) 1) (g .m))
+
+-- 11: the figure is 999,999 or more.
+abbrev pub figureOut : ℕ → Bool
+figureOut figure = leb 999999 figure
+
+-- 13: the text is over 65,536 bytes.
+abbrev pub textOut : ℕ → Bool
+textOut bytes = ltb 65536 bytes
+
+-- ---- the order of each call
+abbrev pub imageAreas : Image → List Lent
+imageAreas g = lent (g .n + g .m) (g .after) ∷ lent (g .m) (g .tail) ∷ []
+
+-- The conditions on the words of an image.
+abbrev pub imageRefusals : Image → List Refusal
+imageRefusals g = refuse 5 (afterOut g) ∷ refuse 6 (tailOut (g .n) (g .m) (g .tail)) ∷ refuse 7 (listOut g) ∷ []
+
+-- A checker or converter of a linked image; `areas` are those lent besides the image.
+abbrev pub imageNumber : Image → List Lent → ℕ
+imageNumber g areas = firstOf (refuse 1 (verticesOut (g .n)) ∷ refuse 2 (edgesOut (g .m)) ∷ refuse 3 (short (imageAreas g ++ areas)) ∷ imageRefusals g)
+
+-- A search of a linked image, or the opening of one.
+abbrev pub searchNumber : Image → ℕ → List Lent → ℕ
+searchNumber g start areas = firstOf (refuse 1 (verticesOut (g .n)) ∷ refuse 2 (edgesOut (g .m)) ∷ refuse 3 (short (imageAreas g ++ areas)) ∷ refuse 4 (vertexOut (g .n) start) ∷ imageRefusals g)
+
+-- A search of an array form from a vertex, or a query of one.
+abbrev pub arrayNumber : ArrayForm → ℕ → List Lent → ℕ
+arrayNumber a x areas =
+    firstOf
+    (refuse 1 (verticesOut (a .n))
+    ∷ refuse 2 (edgesOut (a .m))
+    ∷ refuse 3 (short (lent (a .n + 1) (a .firsts) ∷ lent (a .m) (a .tails) ∷ areas))
+    ∷ refuse 4 (vertexOut (a .n) x)
+    ∷ refuse 5 (firstOut a)
+    ∷ refuse 6 (tailOut (a .n) (a .m) (a .tails))
+    ∷ [])
+
+-- The areas of a whole run of k nodes: marks, and two events of three words for each node.
+abbrev pub runAreas : ℕ → List ℕ → List ℕ → List Lent
+runAreas k marks events = lent k marks ∷ lent (6 * k) events ∷ []

@@ -1,0 +1,45 @@
+-- What a search leaves in the areas lent to a walker, as functions of its events (document 01, "Events").
+use mathlib.Core.Bool.{Bool, true, false, cond, _&&_}
+use mathlib.Core.List.{List, [], _∷_, reverse}
+use Prim.Native.Nat.{ℕ, max}
+use lib.Dec.{eqb}
+use Rattle.lists.specs.Members.{memb}
+use Rattle.lists.specs.Counts.{rank}
+use Rattle.lists.specs.Words.{at, overlay, filled}
+use Rattle.graphs.specs.Graph.{Graph}
+use Rattle.graphs.specs.Events.{Event, event, advance-tree, History, words, same, labelled}
+
+-- The event area: the events in order; the words past the last event stay.
+abbrev pub eventsLeft : History → List ℕ → List ℕ
+eventsLeft h area = overlay (words (reverse h)) area
+
+-- The marks of k nodes: 1 for the start, then 2, 3 and on in order of labelling, 0 for the rest.
+abbrev pub marksLeft : ℕ → History → List ℕ → List ℕ
+marksLeft k h area = filled (λ x. rank x (labelled h)) k area
+
+-- The queue area: the labelled elements in order, then 0.
+abbrev pub queueLeft : ℕ → History → List ℕ → List ℕ
+queueLeft n h area = filled (at 0 (reverse (labelled h))) n area
+
+-- The last advance along a tree reference that passes a test: the reference and the element it leaves; 0 and 0 where there is none.
+abbrev pub lastTree : (ℕ → ℕ → Bool) → History → ℕ × ℕ
+lastTree f [] = (0, 0)
+lastTree f (event k r u ∷ h) = cond (same k advance-tree && f r u) (r, u) (lastTree f h)
+
+-- The tree reference into x, and the parent of x.
+abbrev pub entry : Graph → History → ℕ → ℕ × ℕ
+entry G h x = lastTree (λ r u. eqb (G .to r) x) h
+
+-- A parent word: the tree reference into the element's parent.
+abbrev pub parentWord : Graph → History → ℕ → ℕ
+parentWord G h x = entry G h (entry G h x .1) .0
+
+abbrev pub parentLeft : Graph → History → List ℕ → List ℕ
+parentLeft G h area = filled (parentWord G h) (G .size) area
+
+-- An increment: the place in its list of the last tree reference, 1 for a reached element without one, 0 for the unreached.
+abbrev pub incrementWord : Graph → History → ℕ → ℕ
+incrementWord G h x = cond (memb x (labelled h)) (max 1 (rank (lastTree (λ r u. eqb u x) h .0) (reverse (G .out x)))) 0
+
+abbrev pub incrementLeft : Graph → History → List ℕ → List ℕ
+incrementLeft G h area = filled (incrementWord G h) (G .size) area

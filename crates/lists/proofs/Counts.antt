@@ -1,0 +1,107 @@
+-- Laws of counts, sums and ranks.
+-- By recursion on the list, with a member taken out of it where two lists are compared.
+use mathlib.Core.Path.{_≡_, refl, sym, ap, _∙_, subst}
+use mathlib.Core.Logic.{_≢_, _⊎_, inl, inr, _↔_}
+use mathlib.Core.Bool.{Bool, true, false, not, cond}
+use mathlib.Core.List.{List, [], _∷_, _++_}
+use Prim.Native.Nat.{ℕ, zero, suc, _+_, _≤_, _<_}
+use native.Mathlib.Omega.{arith}
+use lib.ListN.{length}
+use lib.Dec.{eqb}
+use borrow.Author.Tests.{eqb-true, eqb-false, eq-eqb, ne-eqb}
+use Rattle.lists.specs.Members.{Mem, here, there, memb, NoDup, Same, consIf, without}
+use Rattle.lists.specs.Counts.{bump, countIn, sumOf, rank, allTo}
+use Rattle.lists.proofs.Tests.{both, Compared, equal, other, compare}
+use Rattle.lists.proofs.Members.{mem-nil, mem-cons, mem-tail, mem-one, memb-true, memb-false, mem-memb, memb-of-not, without-mem, mem-without, without-nodup, without-none}
+
+pub bump-grow : (b : Bool) (k : ℕ) → k ≤ bump b k
+bump-grow true k = omega arith
+bump-grow false k = omega arith
+
+-- ---- counts
+pub count-append : (x : ℕ) (k l : List ℕ) → countIn x (k ++ l) ≡ countIn x k + countIn x l
+count-append x [] l = omega arith
+count-append x (y ∷ k) l = go (eqb x y) (count-append x k l)
+  where
+    go : (b : Bool) → countIn x (k ++ l) ≡ countIn x k + countIn x l → bump b (countIn x (k ++ l)) ≡ bump b (countIn x k) + countIn x l
+    go true ih = omega arith
+    go false ih = ih
+
+pub count-mem : {x : ℕ} {l : List ℕ} → Mem x l → 1 ≤ countIn x l
+count-mem {x} (here {y} {l} e) = rw (eq-eqb x y e) (omega arith)
+count-mem {x} (there {y} {l} m) = let a = count-mem m in let b = bump-grow (eqb x y) (countIn x l) in omega arith
+
+pub mem-count : (x : ℕ) (l : List ℕ) → 1 ≤ countIn x l → Mem x l
+mem-count x [] h = absurd (omega arith)
+mem-count x (y ∷ l) h = go (eqb x y) refl h (λ k. mem-count x l k)
+  where
+    go : (b : Bool) → eqb x y ≡ b → 1 ≤ bump b (countIn x l) → (1 ≤ countIn x l → Mem x l) → Mem x (y ∷ l)
+    go true e k ih = here (eqb-true x y e)
+    go false e k ih = there (ih k)
+
+-- What is counted at most once does not stand twice.
+pub count-once : (l : List ℕ) → ((x : ℕ) → Mem x l → countIn x l ≤ 1) → NoDup l
+count-once [] h = tt
+count-once (y ∷ l) h = (λ m. twice (h y (here refl)) m, count-once l (λ x m. (let a = h x (there m) in let b = bump-grow (eqb x y) (countIn x l) in omega arith)))
+  where
+    twice : countIn y (y ∷ l) ≤ 1 → Mem y l → ⊥
+    twice q m =
+        let a : suc (countIn y l) ≤ 1 = subst (λ (b : Bool). bump b (countIn y l) ≤ 1) (eq-eqb y y refl) q in
+        let b = count-mem m in
+        omega arith
+
+-- ---- sums
+pub sum-same : (f g : ℕ → ℕ) → ((x : ℕ) → f x ≡ g x) → (l : List ℕ) → sumOf f l ≡ sumOf g l
+sum-same f g e [] = refl
+sum-same f g e (x ∷ l) = let a = e x in let b = sum-same f g e l in omega arith
+
+pub length-sum : (l : List ℕ) → length l ≡ sumOf (λ x. 1) l
+length-sum [] = refl
+length-sum (x ∷ l) = let h = length-sum l in omega arith
+
+pub sum-append : (f : ℕ → ℕ) (k l : List ℕ) → sumOf f (k ++ l) ≡ sumOf f k + sumOf f l
+sum-append f [] l = omega arith
+sum-append f (x ∷ k) l = let h = sum-append f k l in omega arith
+
+take-out : (f : ℕ → ℕ) (x : ℕ) (l : List ℕ) → NoDup l → Mem x l → sumOf f l ≡ f x + sumOf f (without (x ∷ []) l)
+take-out f x [] h m = absurd (mem-nil m)
+take-out f x (y ∷ l) h m = go (compare y x) (λ k. take-out f x l (h .1) k)
+  where
+    go : Compared y x → (Mem x l → sumOf f l ≡ f x + sumOf f (without (x ∷ []) l)) → sumOf f (y ∷ l) ≡ f x + sumOf f (without (x ∷ []) (y ∷ l))
+    go (equal e t) ih =
+        let gone : without (x ∷ []) l ≡ l = without-none (x ∷ []) l (λ z q k. h .0 (subst (λ (w : ℕ). Mem w l) (mem-one k ∙ sym e) q)) in
+        rw (mem-memb {l = x ∷ []} (here e), gone, e)
+    go (other ne t) ih =
+        let i = ih (mem-tail m (λ e. ne (sym e))) in
+        rw (memb-of-not y (x ∷ []) (λ k. ne (mem-one k))) (omega arith)
+
+-- Two lists with the same members, nothing twice, have the same sums.
+pub same-sum : (f : ℕ → ℕ) (k l : List ℕ) → NoDup k → NoDup l → Same k l → sumOf f k ≡ sumOf f l
+same-sum f [] [] h j s = refl
+same-sum f [] (y ∷ l) h j s = absurd (mem-nil (s y .1 (here refl)))
+same-sum f (x ∷ k) l h j s =
+    ap (λ (z : ℕ). f x + z) (same-sum f k (without (x ∷ []) l) (h .1) (without-nodup (x ∷ []) l j) (λ z. (in-l z, in-k z)))
+    ∙ sym (take-out f x l j (s x .0 (here refl)))
+  where
+    in-l : (z : ℕ) → Mem z k → Mem z (without (x ∷ []) l)
+    in-l z m = mem-without (x ∷ []) l (s z .0 (there m)) (λ q. h .0 (subst (λ (y : ℕ). Mem y k) (mem-one q) m))
+
+    in-k : (z : ℕ) → Mem z (without (x ∷ []) l) → Mem z k
+    in-k z m = let q = without-mem (x ∷ []) l m in mem-tail (s z .1 (q .0)) (λ e. q .1 (here e))
+
+pub same-length : (k l : List ℕ) → NoDup k → NoDup l → Same k l → length k ≡ length l
+same-length k l h j s = length-sum k ∙ same-sum (λ x. 1) k l h j s ∙ sym (length-sum l)
+
+-- ---- tests at each number
+pub all-at : (f : ℕ → Bool) (k : ℕ) → allTo f k ≡ true → (x : ℕ) → 0 < x → x ≤ k → f x ≡ true
+all-at f zero h x p q = absurd (omega arith)
+all-at f (suc k) h x p q = go (compare x (suc k)) (both (allTo f k) (f (suc k)) h) (λ a c. all-at f k a x p c)
+  where
+    go : Compared x (suc k) → (allTo f k ≡ true) × (f (suc k) ≡ true) → (allTo f k ≡ true → x ≤ k → f x ≡ true) → f x ≡ true
+    go (equal e t) z ih = ap f e ∙ z .1
+    go (other ne t) z ih = ih (z .0) (omega arith)
+
+-- ---- ranks
+pub rank-none : (x : ℕ) (l : List ℕ) → (Mem x l → ⊥) → rank x l ≡ 0
+rank-none x [] h = refl
+rank-none x (y ∷ l) h = rw (ne-eqb x y (λ e. h (here e))) (rank-none x l (λ m. h (there m)))

@@ -1,0 +1,100 @@
+-- Laws of words in areas: what a store changes, what it leaves, and areas that are filled.
+-- From the laws of stores into lists, at the place of a node.
+use mathlib.Core.Path.{_≡_, refl, sym, ap, _∙_}
+use mathlib.Core.Logic.{_≢_}
+use mathlib.Core.Bool.{Bool, true, false, cond}
+use mathlib.Core.List.{List, [], _∷_, _++_}
+use Prim.Native.Nat.{ℕ, zero, suc, _+_, _-_, _≤_, _<_}
+use native.Mathlib.Omega.{arith}
+use native.Mathlib.Nat.{add-zero}
+use lib.Dec.{eqb}
+use lib.ListN.{length, getD, set, drop, replicate, length-set, length-append, length-drop, length-replicate, getD-replicate, List·getD-append}
+use lib.Seq.{set-set, set-comm, set-getD, getD-set-same, getD-set-other, set-append-left, ext-getD}
+use borrow.Author.Tests.{eq-eqb, ne-eqb}
+use Rattle.lists.specs.Counts.{rank}
+use Rattle.lists.specs.Words.{at, put, overlay, cleared, valuesFrom, filled}
+use Rattle.lists.proofs.Tests.{Compared, equal, other, compare}
+
+module _ (b : ℕ) where
+  pub length-put : (area : List ℕ) (x w : ℕ) → length (put b area x w) ≡ length area
+  unfolding put
+  length-put area x w = length-set area (x - suc b) w
+
+  pub put-put : (area : List ℕ) (x v w : ℕ) → put b (put b area x v) x w ≡ put b area x w
+  unfolding put
+  put-put area x v w = set-set area (x - suc b) v w
+
+  pub put-at : (area : List ℕ) (x : ℕ) → put b area x (at b area x) ≡ area
+  unfolding put at
+  put-at area x = set-getD area (x - suc b) 0
+
+  apart : (x y : ℕ) → b < x → b < y → x ≢ y → (x - suc b) ≢ (y - suc b)
+  apart x y hx hy ne e = ne (omega (arith, e))
+
+  pub put-comm : (area : List ℕ) (x y v w : ℕ) → b < x → b < y → x ≢ y → put b (put b area x v) y w ≡ put b (put b area y w) x v
+  unfolding put
+  put-comm area x y v w hx hy ne = set-comm area (x - suc b) (y - suc b) v w (apart x y hx hy ne)
+
+  pub at-put : (area : List ℕ) (x w : ℕ) → b < x → x ≤ b + length area → at b (put b area x w) x ≡ w
+  unfolding put at
+  at-put area x w hx hl = getD-set-same area (x - suc b) w 0 (omega arith)
+
+  pub at-other : (area : List ℕ) (x y w : ℕ) → b < x → b < y → y ≢ x → at b (put b area x w) y ≡ at b area y
+  unfolding put at
+  at-other area x y w hx hy ne = getD-set-other area (x - suc b) (y - suc b) w 0 (apart y x hy hx ne)
+
+-- ---- filled areas
+length-front : (ws : List ℕ) (k : ℕ) (area : List ℕ) → length ws ≡ k → k ≤ length area → length (ws ++ drop k area) ≡ length area
+length-front ws k area e h = omega (arith, length-append ws (drop k area), length-drop k area)
+
+pub length-cleared : (k : ℕ) (area : List ℕ) → k ≤ length area → length (cleared k area) ≡ length area
+length-cleared k area h = length-front (replicate k 0) k area (length-replicate {A = ℕ} k 0) h
+
+pub length-values : (f : ℕ → ℕ) (b k : ℕ) → length (valuesFrom f b k) ≡ k
+length-values f b zero = refl
+length-values f b (suc k) = ap suc (length-values f (suc b) k)
+
+pub at-cleared : (k : ℕ) (area : List ℕ) (x : ℕ) → 0 < x → x ≤ k → at 0 (cleared k area) x ≡ 0
+unfolding at
+at-cleared k area x h q =
+    List·getD-append (replicate k 0) (drop k area) 0 (x - suc zero) (omega (arith, length-replicate {A = ℕ} k 0))
+    ∙ getD-replicate k (x - suc zero) 0 0 (omega arith)
+
+-- Zeros everywhere are an area cleared.
+pub values-zero : (f : ℕ → ℕ) (b k : ℕ) → ((x : ℕ) → b < x → x ≤ b + k → f x ≡ 0) → valuesFrom f b k ≡ replicate k 0
+values-zero f b zero h = refl
+values-zero f b (suc k) h = λ i. h (suc b) (omega arith) (omega arith) i ∷ values-zero f (suc b) k (λ x p q. h x (omega arith) (omega arith)) i
+
+pub values-same : (f g : ℕ → ℕ) (b k : ℕ) → ((x : ℕ) → b < x → x ≤ b + k → f x ≡ g x) → valuesFrom f b k ≡ valuesFrom g b k
+values-same f g b zero h = refl
+values-same f g b (suc k) h = λ i. h (suc b) (omega arith) (omega arith) i ∷ values-same f g (suc b) k (λ x p q. h x (omega arith) (omega arith)) i
+
+-- The value w at u, and f elsewhere.
+abbrev pub but : (ℕ → ℕ) → ℕ → ℕ → ℕ → ℕ
+but f u w x = cond (eqb x u) w (f x)
+
+values-set : (f : ℕ → ℕ) (b k u w : ℕ) → b < u → u ≤ b + k → set (valuesFrom f b k) (u - suc b) w ≡ valuesFrom (but f u w) b k
+values-set f b zero u w h q = absurd (omega arith)
+values-set f b (suc k) u w h q = go (compare (suc b) u) (λ p r. values-set f (suc b) k u w p r)
+  where
+    go : Compared (suc b) u → (suc b < u → u ≤ suc b + k → set (valuesFrom f (suc b) k) (u - suc (suc b)) w ≡ valuesFrom (but f u w) (suc b) k) → set (valuesFrom f b (suc k)) (u - suc b) w ≡ valuesFrom (but f u w) b (suc k)
+    go (equal e t) ih =
+        let z : u - suc b ≡ 0 = omega arith in
+        let s : valuesFrom f (suc b) k ≡ valuesFrom (but f u w) (suc b) k = values-same f (but f u w) (suc b) k (λ x p r. rw (ne-eqb x u (omega arith))) in
+        rw (z, t) (λ i. w ∷ s i)
+    go (other ne t) ih =
+        let z : u - suc b ≡ suc (u - suc (suc b)) = omega arith in
+        rw (z, t) (λ i. f (suc b) ∷ ih (omega arith) (omega arith) i)
+
+-- A store into a filled area changes one value.
+pub put-filled : (f : ℕ → ℕ) (k : ℕ) (area : List ℕ) (u w : ℕ) → 0 < u → u ≤ k → put 0 (filled f k area) u w ≡ filled (but f u w) k area
+unfolding put
+put-filled f k area u w h q =
+    set-append-left (valuesFrom f 0 k) (drop k area) (u - suc zero) w (omega (arith, length-values f 0 k))
+    ∙ ap (λ (ws : List ℕ). ws ++ drop k area) (values-set f 0 k u w h (omega arith))
+
+pub filled-same : (f g : ℕ → ℕ) (k : ℕ) (area : List ℕ) → ((x : ℕ) → 0 < x → x ≤ k → f x ≡ g x) → filled f k area ≡ filled g k area
+filled-same f g k area h = ap (λ (ws : List ℕ). ws ++ drop k area) (values-same f g 0 k (λ x p q. h x p (omega arith)))
+
+pub cleared-filled : (k : ℕ) (area : List ℕ) → cleared k area ≡ filled (λ x. 0) k area
+cleared-filled k area = ap (λ (ws : List ℕ). ws ++ drop k area) (sym (values-zero (λ x. 0) 0 k (λ x p q. refl)))
