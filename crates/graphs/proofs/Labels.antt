@@ -7,9 +7,11 @@ use Prim.Native.Nat.{ℕ, zero, suc, _+_, _≤_, _<_}
 use native.Mathlib.Omega.{arith}
 use lib.ListN.{length}
 use Rattle.lists.specs.Members.{Mem, here, there, NoDup}
+use Rattle.lists.specs.Counts.{countIn}
+use Rattle.lists.proofs.Counts.{count-mem, mem-count, count-once, count-most}
 use Rattle.lists.proofs.Members.{mem-nil, mem-cons, each-cons, pigeonhole}
 use Rattle.graphs.specs.Nodes.{Vertex}
-use Rattle.graphs.specs.Graph.{Graph}
+use Rattle.graphs.specs.Graph.{Graph, Reached}
 
 pub record Labels (n : ℕ) (ls : List ℕ) : Type 0 where
   pub once : NoDup ls
@@ -61,3 +63,10 @@ module _ (G : Graph) where
       go : (x : ℕ) → Mem x (u ∷ p) ⊎ Done G q x → Mem x p ⊎ Done G q x
       go x (inl m) = at-u x (mem-cons m)
       go x (inr c) = inr c
+
+-- A list that has each vertex as often as one of the reached vertices is one of the reached vertices.
+pub reached-counts : (G : Graph) (off : List ℕ) (start : ℕ) (vs us : List ℕ) → ((x : ℕ) → countIn x us ≡ countIn x vs) → Reached G off start vs → Reached G off start us
+reached-counts G off start vs us same R = record {
+  once = count-once us (λ x m. (let a = same x in let b = count-most x vs (R .once) in omega arith));
+  exact = λ x. (λ m. R .exact x .0 (mem-count x vs (let a = same x in let b = count-mem m in omega arith)), λ l. mem-count x us (let a = same x in let b = count-mem (R .exact x .1 l) in omega arith));
+}

@@ -1,4 +1,7 @@
 pub mod Nodes
-pub mod Sound
 pub mod Labels
-pub mod Recorder
+pub mod Refusals
+pub mod Sound
+pub mod DepthGrowth
+pub mod DepthCounts
+pub mod Depth

@@ -1,1 +1,218 @@
--- What the conditions of an image come to, as proofs use it: `Sound`, from the tests.
+-- What the conditions of a sound image come to, as other proofs use it, and that the tests give it.
+-- Lists whose references are counted once each in all lists are chains that end, share nothing, and have an owner each.
+use mathlib.Core.Path.{_≡_, refl, sym, ap, _∙_, subst}
+use mathlib.Core.Logic.{_⊎_, inl, inr}
+use mathlib.Core.Bool.{Bool, true, false, cond, not}
+use mathlib.Core.List.{List, [], _∷_, _++_}
+use Prim.Native.Nat.{ℕ, zero, suc, _+_, _-_, _≤_, _<_}
+use native.Mathlib.Omega.{arith}
+use lib.ListN.{length, getD, length-append}
+use lib.Dec.{eqb, ltb, leb}
+use borrow.Author.Tests.{eqb-true, ltb-false, le-leb, lt-leb, not-false}
+use Rattle.lists.specs.Members.{Mem, here, there, NoDup, memb}
+use Rattle.lists.specs.Counts.{countIn, sumOf, allTo}
+use Rattle.lists.specs.Words.{at}
+use Rattle.lists.proofs.Tests.{neither, Compared, equal, other, compare}
+use Rattle.lists.proofs.Members.{mem-nil, mem-cons, each-cons, mem-append, memb-true, memb-false, append-nodup, pigeonhole}
+use Rattle.lists.proofs.Counts.{count-append, count-mem, count-once, all-at}
+use Rattle.graphs.specs.Nodes.{Vertex, Edge, isVertex, isLink}
+use Rattle.graphs.specs.Graph.{Closed, met}
+use Rattle.graphs.specs.Image.{Image, chain, edgesOf, to, graphOf, listsTo}
+use Rattle.graphs.specs.Refusals.{refuse, firstOf, Lent, lent, short, verticesOut, edgesOut, vertexOut, afterOut, tailOut, listOut, imageAreas, imageRefusals, imageNumber, searchNumber}
+use Rattle.graphs.proofs.Nodes.{vertex-is, link-edge}
+use Rattle.graphs.proofs.Labels.{Labels}
+use Rattle.graphs.proofs.Refusals.{passes, long}
+
+abbrev pub head0 : List ℕ → ℕ
+head0 [] = 0
+head0 (x ∷ l) = x
+
+-- Each reference's after word is the next of the list, 0 at its end.
+abbrev pub Linked : List ℕ → List ℕ → Type 0
+Linked after [] = Unit {0}
+Linked after (r ∷ rs) = (at 0 after r ≡ head0 rs) × Linked after rs
+
+-- `owner` of a node: the vertex on whose list it stands; a vertex owns itself.
+pub record Sound (g : Image) : Type 0 where
+  pub few-vertices : g .n ≤ 1000
+  pub few-edges : g .m ≤ 4000
+  pub owner : ℕ → ℕ
+  pub own-self : (u : ℕ) → Vertex (g .n) u → owner u ≡ u
+  pub own-edge : (u r : ℕ) → Vertex (g .n) u → Mem r (edgesOf g u) → owner r ≡ u
+  pub edge : (u r : ℕ) → Vertex (g .n) u → Mem r (edgesOf g u) → Edge (g .n) (g .m) r
+  pub target : (r : ℕ) → Edge (g .n) (g .m) r → Vertex (g .n) (to g r)
+  pub once : (u : ℕ) → Vertex (g .n) u → NoDup (edgesOf g u)
+  pub first : (u : ℕ) → Vertex (g .n) u → at 0 (g .after) u ≡ head0 (edgesOf g u)
+  pub linked : (u : ℕ) → Vertex (g .n) u → Linked (g .after) (edgesOf g u)
+  pub long-after : g .n + g .m ≤ length (g .after)
+  pub long-tail : g .m ≤ length (g .tail)
+
+-- ---- chains
+-- The k-th tail word is that of reference n + k.
+same-place : (n r : ℕ) (tail : List ℕ) → n < r → at 0 tail (r - n) ≡ at n tail r
+unfolding at
+same-place n r tail h = let e : r - n - suc zero ≡ r - suc n = omega arith in ap (λ (i : ℕ). getD tail i 0) e
+
+chain-edges : (n m : ℕ) (after : List ℕ) → ((x : ℕ) → 0 < x → x ≤ n + m → isLink n m (at 0 after x) ≡ true) → (k x : ℕ) → isLink n m x ≡ true → (r : ℕ) → Mem r (chain k after x) → Edge n m r
+chain-edges n m after h zero x hx r q = absurd (mem-nil q)
+chain-edges n m after h (suc k) zero hx r q = absurd (mem-nil q)
+chain-edges n m after h (suc k) (suc y) hx r q =
+    let e : Edge n m (suc y) = link-edge n m y hx in
+    each-cons (Edge n m) (suc y) (chain k after (at 0 after (suc y))) e (λ z p. chain-edges n m after h k (at 0 after (suc y)) (h (suc y) (omega arith) (e .1)) z p) r q
+
+-- A chain shorter than its fuel has come to its end.
+chain-linked : (after : List ℕ) (k x : ℕ) → length (chain k after x) < k → (x ≡ head0 (chain k after x)) × Linked after (chain k after x)
+chain-linked after zero x h = absurd (omega arith)
+chain-linked after (suc k) zero h = (refl, tt)
+chain-linked after (suc k) (suc y) h = (refl, chain-linked after k (at 0 after (suc y)) (omega arith))
+
+-- ---- counts over all lists
+module _ (g : Image) where
+  lists-one : (r k u : ℕ) → 0 < u → u ≤ k → countIn r (edgesOf g u) ≤ countIn r (listsTo g k)
+  lists-one r zero u p q = absurd (omega arith)
+  lists-one r (suc k) u p q = go (compare u (suc k)) (λ z. lists-one r k u p z) (count-append r (listsTo g k) (edgesOf g (suc k)))
+    where
+      go : Compared u (suc k) → (u ≤ k → countIn r (edgesOf g u) ≤ countIn r (listsTo g k)) → countIn r (listsTo g (suc k)) ≡ countIn r (listsTo g k) + countIn r (edgesOf g (suc k)) → countIn r (edgesOf g u) ≤ countIn r (listsTo g (suc k))
+      go (equal e t) ih sum = rw e (omega arith)
+      go (other ne t) ih sum = let i = ih (omega arith) in omega arith
+
+  lists-two : (r k u t : ℕ) → 0 < u → u < t → t ≤ k → countIn r (edgesOf g u) + countIn r (edgesOf g t) ≤ countIn r (listsTo g k)
+  lists-two r zero u t p q w = absurd (omega arith)
+  lists-two r (suc k) u t p q w = go (compare t (suc k)) (λ z. lists-two r k u t p q z) (count-append r (listsTo g k) (edgesOf g (suc k)))
+    where
+      go : Compared t (suc k) → (t ≤ k → countIn r (edgesOf g u) + countIn r (edgesOf g t) ≤ countIn r (listsTo g k)) → countIn r (listsTo g (suc k)) ≡ countIn r (listsTo g k) + countIn r (edgesOf g (suc k)) → countIn r (edgesOf g u) + countIn r (edgesOf g t) ≤ countIn r (listsTo g (suc k))
+      go (equal e z) ih sum = let i : countIn r (edgesOf g u) ≤ countIn r (listsTo g k) = lists-one r k u p (omega arith) in rw e (omega arith)
+      go (other ne z) ih sum = let i = ih (omega arith) in omega arith
+
+  -- ---- owners
+  abbrev find : ℕ → ℕ → ℕ
+  find r zero = 0
+  find r (suc k) = cond (memb r (edgesOf g (suc k))) (suc k) (find r k)
+
+  abbrev ownerOf : ℕ → ℕ
+  ownerOf x = cond (leb x (g .n)) x (find x (g .n))
+
+  find-is : (r u : ℕ) → ((t : ℕ) → Vertex (g .n) t → Mem r (edgesOf g t) → t ≡ u) → Mem r (edgesOf g u) → (k : ℕ) → k ≤ g .n → 0 < u → u ≤ k → find r k ≡ u
+  find-is r u one m zero a p q = absurd (omega arith)
+  find-is r u one m (suc k) a p q = go (memb r (edgesOf g (suc k))) refl (λ z. find-is r u one m k (omega arith) p z)
+    where
+      go : (b : Bool) → memb r (edgesOf g (suc k)) ≡ b → (u ≤ k → find r k ≡ u) → cond b (suc k) (find r k) ≡ u
+      go true e ih = one (suc k) (omega arith) (memb-true r (edgesOf g (suc k)) e)
+      go false e ih = ih (let ne : u ≡ suc k → ⊥ = λ z. memb-false r (edgesOf g (suc k)) e (subst (λ (y : ℕ). Mem r (edgesOf g y)) z m) in omega arith)
+
+  -- ---- the tests give it
+  sound-of : verticesOut (g .n) ≡ false → edgesOut (g .m) ≡ false → g .n + g .m ≤ length (g .after) → g .m ≤ length (g .tail) → firstOf (imageRefusals g) ≡ 0 → Sound g
+  unfolding edgesOf
+  sound-of hn hm la lt h =
+      record {
+        few-vertices = ltb-false 1000 (g .n) (neither (eqb (g .n) 0) (ltb 1000 (g .n)) hn .1);
+        few-edges = ltb-false 4000 (g .m) hm;
+        owner = ownerOf;
+        own-self = λ u hu. ap (λ (b : Bool). cond b u (find u (g .n))) (le-leb u (g .n) (hu .1));
+        own-edge = λ u r hu m. ap (λ (b : Bool). cond b r (find r (g .n))) (lt-leb r (g .n) (edges u r hu m .0)) ∙ find-is r u (λ t ht k. one r t u ht hu k m) m (g .n) (omega arith) (hu .0) (hu .1);
+        edge = edges;
+        target = λ r e. vertex-is (g .n) (to g r) (subst (λ (x : ℕ). isVertex (g .n) x ≡ true) (place r e) (all-at (λ k. isVertex (g .n) (at 0 (g .tail) k)) (g .m) (not-false _ (h6 .0)) (r - g .n) (let z = e in omega arith) (let z = e in omega arith)));
+        once = nodup;
+        first = λ u hu. links u hu .0;
+        linked = λ u hu. links u hu .1;
+        long-after = la;
+        long-tail = lt;
+      }
+    where
+      h5 : (afterOut g ≡ false) × (firstOf (refuse 6 (tailOut (g .n) (g .m) (g .tail)) ∷ refuse 7 (listOut g) ∷ []) ≡ 0)
+      h5 = passes 5 (afterOut g) (refuse 6 (tailOut (g .n) (g .m) (g .tail)) ∷ refuse 7 (listOut g) ∷ []) (omega arith) h
+
+      h6 : (tailOut (g .n) (g .m) (g .tail) ≡ false) × (firstOf (refuse 7 (listOut g) ∷ []) ≡ 0)
+      h6 = passes 6 (tailOut (g .n) (g .m) (g .tail)) (refuse 7 (listOut g) ∷ []) (omega arith) (h5 .1)
+
+      h7 : (listOut g ≡ false) × (firstOf [] ≡ 0)
+      h7 = passes 7 (listOut g) [] (omega arith) (h6 .1)
+
+      links-in : (x : ℕ) → 0 < x → x ≤ g .n + g .m → isLink (g .n) (g .m) (at 0 (g .after) x) ≡ true
+      links-in = all-at (λ x. isLink (g .n) (g .m) (at 0 (g .after) x)) (g .n + g .m) (not-false _ (h5 .0))
+
+      edges : (u r : ℕ) → Vertex (g .n) u → Mem r (edgesOf g u) → Edge (g .n) (g .m) r
+      edges u r hu m = chain-edges (g .n) (g .m) (g .after) links-in (suc (g .m)) (at 0 (g .after) u) (links-in u (hu .0) (omega arith)) r m
+
+      place : (r : ℕ) → Edge (g .n) (g .m) r → at 0 (g .tail) (r - g .n) ≡ to g r
+      place r e = same-place (g .n) r (g .tail) (e .0)
+
+      counted : (r : ℕ) → Edge (g .n) (g .m) r → countIn r (listsTo g (g .n)) ≡ 1
+      counted r e =
+          let back : g .n + (r - g .n) ≡ r = omega arith in
+          subst (λ (x : ℕ). countIn x (listsTo g (g .n)) ≡ 1) back (eqb-true (countIn (g .n + (r - g .n)) (listsTo g (g .n))) 1 (all-at (λ k. eqb (countIn (g .n + k) (listsTo g (g .n))) 1) (g .m) (not-false _ (h7 .0)) (r - g .n) (let z = e in omega arith) (let z = e in omega arith)))
+
+      nodup : (u : ℕ) → Vertex (g .n) u → NoDup (edgesOf g u)
+      nodup u hu = count-once (edgesOf g u) (λ r m. (let a = counted r (edges u r hu m) in let b = lists-one r (g .n) u (hu .0) (hu .1) in omega arith))
+
+      one : (r t u : ℕ) → Vertex (g .n) t → Vertex (g .n) u → Mem r (edgesOf g t) → Mem r (edgesOf g u) → t ≡ u
+      one r t u ht hu mt mu =
+          let a : countIn r (listsTo g (g .n)) ≡ 1 = counted r (edges u r hu mu) in
+          let b = count-mem mt in
+          let c = count-mem mu in
+          let less : t < u → ⊥ = λ z. (let q : countIn r (edgesOf g t) + countIn r (edgesOf g u) ≤ countIn r (listsTo g (g .n)) = lists-two r (g .n) t u (ht .0) z (hu .1) in omega arith) in
+          let more : u < t → ⊥ = λ z. (let q : countIn r (edgesOf g u) + countIn r (edgesOf g t) ≤ countIn r (listsTo g (g .n)) = lists-two r (g .n) u t (hu .0) z (ht .1) in omega arith) in
+          omega arith
+
+      links : (u : ℕ) → Vertex (g .n) u → (at 0 (g .after) u ≡ head0 (edgesOf g u)) × Linked (g .after) (edgesOf g u)
+      links u hu = chain-linked (g .after) (suc (g .m)) (at 0 (g .after) u) (let q : length (edgesOf g u) ≤ g .m = pigeonhole (g .n) (g .m) (edgesOf g u) (nodup u hu) (λ r m. edges u r hu m) in omega arith)
+
+-- An image that is not refused is sound, and what is lent besides is long enough.
+pub image-sound : (g : Image) (areas : List Lent) → imageNumber g areas ≡ 0 → Sound g × (short areas ≡ false)
+image-sound g areas h =
+    let a = passes 1 (verticesOut (g .n)) (refuse 2 (edgesOut (g .m)) ∷ refuse 3 (short (imageAreas g ++ areas)) ∷ imageRefusals g) (omega arith) h in
+    let b = passes 2 (edgesOut (g .m)) (refuse 3 (short (imageAreas g ++ areas)) ∷ imageRefusals g) (omega arith) (a .1) in
+    let c = passes 3 (short (imageAreas g ++ areas)) (imageRefusals g) (omega arith) (b .1) in
+    let x = long (g .n + g .m) (g .after) (lent (g .m) (g .tail) ∷ areas) (c .0) in
+    let y = long (g .m) (g .tail) areas (x .1) in
+    (sound-of g (a .0) (b .0) (x .0) (y .0) (c .1), y .1)
+
+-- A profile that is not refused: a sound image, a start in it, areas long enough.
+pub record Profile (g : Image) (start : ℕ) (areas : List Lent) : Type 0 where
+  pub sound : Sound g
+  pub start-vertex : Vertex (g .n) start
+  pub areas-long : short areas ≡ false
+
+pub profile-sound : (g : Image) (start : ℕ) (areas : List Lent) → searchNumber g start areas ≡ 0 → Profile g start areas
+profile-sound g start areas h =
+    let a = passes 1 (verticesOut (g .n)) (refuse 2 (edgesOut (g .m)) ∷ refuse 3 (short (imageAreas g ++ areas)) ∷ refuse 4 (vertexOut (g .n) start) ∷ imageRefusals g) (omega arith) h in
+    let b = passes 2 (edgesOut (g .m)) (refuse 3 (short (imageAreas g ++ areas)) ∷ refuse 4 (vertexOut (g .n) start) ∷ imageRefusals g) (omega arith) (a .1) in
+    let c = passes 3 (short (imageAreas g ++ areas)) (refuse 4 (vertexOut (g .n) start) ∷ imageRefusals g) (omega arith) (b .1) in
+    let d = passes 4 (vertexOut (g .n) start) (imageRefusals g) (omega arith) (c .1) in
+    let x = long (g .n + g .m) (g .after) (lent (g .m) (g .tail) ∷ areas) (c .0) in
+    let y = long (g .m) (g .tail) areas (x .1) in
+    record { sound = sound-of g (a .0) (b .0) (x .0) (y .0) (d .1); start-vertex = vertex-is (g .n) start (not-false _ (d .0)); areas-long = y .1 }
+
+-- ---- the graph of a sound image
+module _ (g : Image) (S : Sound g) where
+  pub graph-closed : Closed (graphOf g)
+  graph-closed u r hu m = S .target r (S .edge u r hu m)
+
+  abbrev joined : List ℕ → List ℕ
+  joined [] = []
+  joined (u ∷ us) = edgesOf g u ++ joined us
+
+  length-joined : (us : List ℕ) → length (joined us) ≡ met (graphOf g) us
+  length-joined [] = refl
+  length-joined (u ∷ us) = length-append (edgesOf g u) (joined us) ∙ ap (λ (k : ℕ). length (edgesOf g u) + k) (length-joined us)
+
+  joined-of : (us : List ℕ) → ((x : ℕ) → Mem x us → Vertex (g .n) x) → (r : ℕ) → Mem r (joined us) → Edge (g .n) (g .m) r × Mem (S .owner r) us
+  joined-of [] a r m = absurd (mem-nil m)
+  joined-of (u ∷ us) a r m = go (λ k. joined-of us (λ x q. a x (there q)) r k) (mem-append (edgesOf g u) (joined us) m)
+    where
+      hu : Vertex (g .n) u
+      hu = a u (here refl)
+
+      go : (Mem r (joined us) → Edge (g .n) (g .m) r × Mem (S .owner r) us) → Mem r (edgesOf g u) ⊎ Mem r (joined us) → Edge (g .n) (g .m) r × Mem (S .owner r) (u ∷ us)
+      go ih (inl k) = (S .edge u r hu k, here (S .own-edge u r hu k))
+      go ih (inr k) = let q = ih k in (q .0, there (q .1))
+
+  joined-once : (us : List ℕ) → NoDup us → ((x : ℕ) → Mem x us → Vertex (g .n) x) → NoDup (joined us)
+  joined-once [] h a = tt
+  joined-once (u ∷ us) h a =
+      append-nodup (edgesOf g u) (joined us) (S .once u (a u (here refl))) (joined-once us (h .1) (λ x q. a x (there q)))
+      (λ r m k. h .0 (subst (λ (y : ℕ). Mem y us) (S .own-edge u r (a u (here refl)) m) (joined-of us (λ x q. a x (there q)) r k .1)))
+
+  -- The references on the lists of any vertices, none twice, are at most m.
+  pub met-most : (us : List ℕ) → Labels (g .n) us → met (graphOf g) us ≤ g .m
+  met-most us L = subst (λ (k : ℕ). k ≤ g .m) (length-joined us) (pigeonhole (g .n) (g .m) (joined us) (joined-once us (L .once) (L .all)) (λ r m. joined-of us (L .all) r m .0))

@@ -39,6 +39,10 @@ mem-count x (y ∷ l) h = go (eqb x y) refl h (λ k. mem-count x l k)
     go true e k ih = here (eqb-true x y e)
     go false e k ih = there (ih k)
 
+pub count-none : (x : ℕ) (l : List ℕ) → (Mem x l → ⊥) → countIn x l ≡ 0
+count-none x [] h = refl
+count-none x (y ∷ l) h = rw (ne-eqb x y (λ e. h (here e))) (count-none x l (λ m. h (there m)))
+
 -- What is counted at most once does not stand twice.
 pub count-once : (l : List ℕ) → ((x : ℕ) → Mem x l → countIn x l ≤ 1) → NoDup l
 count-once [] h = tt
@@ -49,6 +53,24 @@ count-once (y ∷ l) h = (λ m. twice (h y (here refl)) m, count-once l (λ x m.
         let a : suc (countIn y l) ≤ 1 = subst (λ (b : Bool). bump b (countIn y l) ≤ 1) (eq-eqb y y refl) q in
         let b = count-mem m in
         omega arith
+
+-- What does not stand twice is counted at most once.
+pub count-most : (x : ℕ) (l : List ℕ) → NoDup l → countIn x l ≤ 1
+count-most x [] h = omega arith
+count-most x (y ∷ l) h = go (compare x y) (count-most x l (h .1))
+  where
+    go : Compared x y → countIn x l ≤ 1 → countIn x (y ∷ l) ≤ 1
+    go (equal e t) ih = rw t (let z : countIn x l ≡ 0 = count-none x l (λ m. h .0 (subst (λ (w : ℕ). Mem w l) e m)) in omega arith)
+    go (other ne t) ih = rw t ih
+
+-- A count is a sum.
+pub count-sum : (x : ℕ) (l : List ℕ) → countIn x l ≡ sumOf (λ y. bump (eqb x y) 0) l
+count-sum x [] = refl
+count-sum x (y ∷ l) = go (eqb x y) (count-sum x l)
+  where
+    go : (b : Bool) → countIn x l ≡ sumOf (λ z. bump (eqb x z) 0) l → bump b (countIn x l) ≡ bump b 0 + sumOf (λ z. bump (eqb x z) 0) l
+    go true ih = omega arith
+    go false ih = omega arith
 
 -- ---- sums
 pub sum-same : (f g : ℕ → ℕ) → ((x : ℕ) → f x ≡ g x) → (l : List ℕ) → sumOf f l ≡ sumOf g l

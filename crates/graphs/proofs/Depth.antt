@@ -1,0 +1,153 @@
+-- The depth-first claim: the relation has one outcome, the executable search; it labels and scans what a path leads to, each once.
+-- The executable search satisfies the relation by recursion on its fuel; two derivations are compared step by step.
+use mathlib.Core.Path.{_≡_, refl, sym, ap, _∙_, subst}
+use mathlib.Core.Logic.{_⊎_, inl, inr, _↔_}
+use mathlib.Core.Bool.{Bool, true, false}
+use mathlib.Core.List.{List, [], _∷_, _++_}
+use Prim.Native.Nat.{ℕ, zero, suc, _+_, _*_, _≤_, _<_}
+use native.Mathlib.Omega.{arith}
+use lib.ListN.{length}
+use lib.Dec.{eqb}
+use Rattle.lists.specs.Members.{Mem, here, there, NoDup, memb}
+use Rattle.lists.specs.Counts.{bump, countIn, sumOf}
+use Rattle.lists.proofs.Members.{mem-nil, each-cons, mem-append, mem-right, memb-true, memb-false, nodup-left}
+use Rattle.lists.proofs.Counts.{count-sum, sum-same}
+use Rattle.graphs.specs.Nodes.{Vertex}
+use Rattle.graphs.specs.Graph.{Graph, Closed, Leads, stays, along, Reached, met}
+use Rattle.graphs.specs.Events.{event, label, advance-tree, advance-nontree, retreat-tree, retreat-nontree, scan, History, _▸_, known, labelled, scanned, traversed, count}
+use Rattle.graphs.specs.Depth.{Searches, searches, Traverses, none, tree, nontree, DepthFirst}
+use Rattle.graphs.specs.Search.{recorder, cross, walkEdges, search, depthFirst}
+use Rattle.graphs.specs.Claims.{Ready, Complete, DepthClaim, DepthFirstClaim}
+use Rattle.graphs.proofs.Labels.{Labels, Done, reached-counts}
+use Rattle.graphs.proofs.DepthGrowth.{Can, CanWalk, can-walk, can-cross, no-fuel, Labelled, search-labels, next-walk}
+use Rattle.graphs.proofs.DepthCounts.{Balance, depth-balance}
+
+-- ---- one outcome
+module _ {G : Graph} {before : List ℕ} where
+  after-search : {u : ℕ} {h i j : History} → Searches G before u h j → ((k : History) → Traverses G before u (G .out u) (h ▸ event label 0 u) k → i ≡ k) → (i ▸ event scan 0 u) ≡ j
+  after-search (searches {u} b) one = ap (λ (z : History). z ▸ event scan 0 u) (one _ b)
+
+  mutual
+    pub one-search : {u : ℕ} {h i j : History} → Searches G before u h i → Searches G before u h j → i ≡ j
+    one-search (searches a) d = after-search d (λ k b. one-walk a b)
+
+    one-walk : {u : ℕ} {rs : List ℕ} {h i j : History} → Traverses G before u rs h i → Traverses G before u rs h j → i ≡ j
+    one-walk none none = refl
+    one-walk (tree n a b) (tree {u} {r} {rs} {j = k} m c d) = one-walk b (subst (λ (z : History). Traverses G before u rs (z ▸ event retreat-tree r u) k) (sym (one-search a c)) d)
+    one-walk (tree n a b) (nontree m c) = absurd (n m)
+    one-walk (nontree m a) (tree n c d) = absurd (n m)
+    one-walk (nontree m a) (nontree n c) = one-walk a c
+
+-- ---- the executable search satisfies the relation
+module _ (G : Graph) (before : List ℕ) (C : Closed G) where
+  abbrev Satisfies : ℕ → Type 0
+  Satisfies k = (u : ℕ) (h : History) → Can G before C k u h → Searches G before u h (search (recorder before) G k u h)
+
+  walk-relates : (k : ℕ) → Satisfies k → (u : ℕ) (rs : List ℕ) (h : History) → CanWalk G before C k rs h → Traverses G before u rs h (walkEdges (recorder before) G (search (recorder before) G k) u rs h)
+  unfolding walkEdges
+  walk-relates k s u [] h c = none
+  walk-relates k s u (r ∷ rs) h c = go (memb (G .to r) (known before h)) refl (walk-relates k s u rs (cross (recorder before) G (search (recorder before) G k) u r (memb (G .to r) (known before h)) h) (next-walk G before C k u r rs h c))
+    where
+      crossed : Bool → History
+      crossed b = cross (recorder before) G (search (recorder before) G k) u r b h
+
+      go : (b : Bool) → memb (G .to r) (known before h) ≡ b → Traverses G before u rs (crossed b) (walkEdges (recorder before) G (search (recorder before) G k) u rs (crossed b)) → Traverses G before u (r ∷ rs) h (walkEdges (recorder before) G (search (recorder before) G k) u rs (crossed b))
+      go true e t = nontree (memb-true (G .to r) (known before h) e) t
+      go false e t = tree (memb-false (G .to r) (known before h) e) (s (G .to r) (h ▸ event advance-tree r u) (can-cross G before C k u r rs h c e)) t
+
+  search-relates : (k : ℕ) → Satisfies k
+  unfolding search
+  search-relates zero u h c = no-fuel G before C u h c
+  search-relates (suc k) u h c = searches (walk-relates k (search-relates k) u (G .out u) (h ▸ event label 0 u) (can-walk G before C k u h c))
+
+-- ---- only what a path leads to
+module _ (G : Graph) (before : List ℕ) (start : ℕ) where
+  abbrev OnlyReached : History → Type 0
+  OnlyReached h = (x : ℕ) → Mem x (labelled h) → Leads G before start x
+
+  reached-more : (u : ℕ) (h : History) → Leads G before start u → OnlyReached h → OnlyReached (h ▸ event label 0 u)
+  reached-more u h l a = each-cons (Leads G before start) u (labelled h) l a
+
+  mutual
+    search-only : {u : ℕ} {h i : History} → Searches G before u h i → Leads G before start u → OnlyReached h → OnlyReached i
+    search-only (searches {u} {h} t) l a = walk-only t l (λ r m. m) (reached-more u h l a)
+
+    walk-only : {u : ℕ} {rs : List ℕ} {h i : History} → Traverses G before u rs h i → Leads G before start u → ((r : ℕ) → Mem r rs → Mem r (G .out u)) → OnlyReached h → OnlyReached i
+    walk-only none l sub a = a
+    walk-only (tree {u} {r} {rs} {h} n s t) l sub a = walk-only t l (λ x m. sub x (there m)) (search-only s (along r l (sub r (here refl)) refl (λ m. n (mem-right (labelled h) m))) a)
+    walk-only (nontree m t) l sub a = walk-only t l (λ x q. sub x (there q)) a
+
+-- ---- the claim
+module _ (G : Graph) (before : List ℕ) (start : ℕ) (R : Ready G before start) where
+  can : Can G before (R .closed) (G .size) start []
+  can = record { vertex = R .start-vertex; fresh = R .start-fresh; labels = record { once = R .once; all = R .vertices }; enough = omega arith }
+
+  pub depth-relates : DepthFirst G before start (depthFirst G before start)
+  unfolding depthFirst
+  depth-relates = search-relates G before (R .closed) (G .size) start [] can
+
+  grown : Labelled G before (R .closed) start [] (depthFirst G before start)
+  unfolding depthFirst
+  grown = search-labels G before (R .closed) (G .size) start [] can
+
+  pub depth-labels : Labels (G .size) (known before (depthFirst G before start))
+  depth-labels = grown .grown .labels
+
+  -- What is known and not from before was labelled, and all its edges lead to what is known.
+  new-done : (x : ℕ) → (Mem x before → ⊥) → Mem x (known before (depthFirst G before start)) → Done G (known before (depthFirst G before start)) x
+  new-done x off m = go (grown .grown .closes x m)
+    where
+      go : Mem x before ⊎ Done G (known before (depthFirst G before start)) x → Done G (known before (depthFirst G before start)) x
+      go (inl q) = absurd (off q)
+      go (inr d) = d
+
+  off-before : {x : ℕ} → Leads G before start x → Mem x before → ⊥
+  off-before (stays e) m = R .start-fresh (subst (λ (y : ℕ). Mem y before) e m)
+  off-before (along r l m e off) q = off q
+
+  all-known : {x : ℕ} → Leads G before start x → Mem x (known before (depthFirst G before start))
+  all-known (stays e) = subst (λ (y : ℕ). Mem y (known before (depthFirst G before start))) (sym e) (grown .self)
+  all-known (along {v} r l m e off) = subst (λ (y : ℕ). Mem y (known before (depthFirst G before start))) e (new-done v (off-before l) (all-known l) r m)
+
+  pub depth-reached : Reached G before start (labelled (depthFirst G before start))
+  depth-reached = record { once = nodup-left (labelled (depthFirst G before start)) before (depth-labels .once); exact = λ x. (only x, λ l. new x l (mem-append (labelled (depthFirst G before start)) before (all-known l))) }
+    where
+      only : (x : ℕ) → Mem x (labelled (depthFirst G before start)) → Leads G before start x
+      only = search-only G before start depth-relates (stays refl) (λ x m. absurd (mem-nil m))
+
+      new : (x : ℕ) → Leads G before start x → Mem x (labelled (depthFirst G before start)) ⊎ Mem x before → Mem x (labelled (depthFirst G before start))
+      new x l (inl m) = m
+      new x l (inr m) = absurd (off-before l m)
+
+  -- For any weight, what is scanned weighs what is labelled, so it is the same.
+  pub depth-scanned : Reached G before start (scanned (depthFirst G before start))
+  depth-scanned = reached-counts G before start (labelled (depthFirst G before start)) (scanned (depthFirst G before start)) (λ x. weight x) depth-reached
+    where
+      weight : (x : ℕ) → countIn x (scanned (depthFirst G before start)) ≡ countIn x (labelled (depthFirst G before start))
+      weight x =
+          let b = depth-balance G before (λ y. bump (eqb x y) 0) (λ y. 0) start in
+          let c : sumOf (λ y. bump (eqb x y) 0) (scanned (depthFirst G before start)) ≡ sumOf (λ y. bump (eqb x y) 0) (labelled (depthFirst G before start)) = omega (arith, b .scans) in
+          count-sum x (scanned (depthFirst G before start)) ∙ c ∙ sym (count-sum x (labelled (depthFirst G before start)))
+
+  depth-edges : (r : ℕ) → countIn r (traversed (depthFirst G before start)) ≡ sumOf (λ u. countIn r (G .out u)) (labelled (depthFirst G before start))
+  depth-edges r =
+      let b = depth-balance G before (λ y. 0) (λ y. bump (eqb r y) 0) start in
+      let c : sumOf (λ y. bump (eqb r y) 0) (traversed (depthFirst G before start)) ≡ sumOf (λ u. sumOf (λ y. bump (eqb r y) 0) (G .out u)) (labelled (depthFirst G before start)) = omega (arith, b .edges) in
+      count-sum r (traversed (depthFirst G before start)) ∙ c ∙ sum-same (λ u. sumOf (λ y. bump (eqb r y) 0) (G .out u)) (λ u. countIn r (G .out u)) (λ u. sym (count-sum r (G .out u))) (labelled (depthFirst G before start))
+
+  pub depth-claim : DepthClaim G before start
+  depth-claim =
+      let b = depth-balance G before (λ y. 0) (λ y. 0) start in
+      record {
+        one = λ h. (λ d. one-search d depth-relates, λ e. subst (DepthFirst G before start) (sym e) depth-relates);
+        complete = record { labels = depth-reached; scans = depth-scanned; edges = depth-edges };
+        advances = omega (arith, b .advances);
+        tree-pairs = omega (arith, b .trees);
+        nontree-pairs = omega (arith, b .nontrees);
+      }
+
+  pub depth-length : length (depthFirst G before start) ≡ 2 * (met G (labelled (depthFirst G before start)) + length (labelled (depthFirst G before start)))
+  depth-length = omega (arith, depth-balance G before (λ y. 0) (λ y. 0) start .size)
+
+pub depth-first : DepthFirstClaim
+depth-first = depth-claim

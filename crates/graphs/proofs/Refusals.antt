@@ -1,0 +1,19 @@
+-- A call that meets no condition: each of its conditions is false.
+-- The number of a list of conditions is 0 only where the first is false and the number of the others is 0.
+use mathlib.Core.Path.{_≡_, refl, sym, ap, _∙_}
+use mathlib.Core.Bool.{Bool, true, false, cond, _||_}
+use mathlib.Core.List.{List, [], _∷_}
+use Prim.Native.Nat.{ℕ, _≤_, _<_}
+use native.Mathlib.Omega.{arith}
+use lib.ListN.{length}
+use lib.Dec.{ltb}
+use borrow.Author.Tests.{ltb-false}
+use Rattle.lists.proofs.Tests.{neither}
+use Rattle.graphs.specs.Refusals.{Refusal, refuse, firstOf, Lent, lent, short}
+
+pub passes : (k : ℕ) (b : Bool) (cs : List Refusal) → 0 < k → firstOf (refuse k b ∷ cs) ≡ 0 → (b ≡ false) × (firstOf cs ≡ 0)
+passes k true cs h e = absurd (let z : k ≡ 0 = e in omega arith)
+passes k false cs h e = (refl, e)
+
+pub long : (stated : ℕ) (area : List ℕ) (others : List Lent) → short (lent stated area ∷ others) ≡ false → (stated ≤ length area) × (short others ≡ false)
+long stated area others e = let z = neither (ltb (length area) stated) (short others) e in (ltb-false (length area) stated (z .0), z .1)
