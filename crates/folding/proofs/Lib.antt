@@ -1,0 +1,3 @@
+pub mod Bent
+pub mod Links
+pub mod Steps

@@ -6,7 +6,7 @@ use mathlib.Core.Bool.{Bool, true, false, cond}
 use mathlib.Core.List.{List, [], _∷_, reverse, IsPrefix}
 use Prim.Native.Nat.{ℕ, zero, suc, _+_, _*_, _≤_, _<_}
 use lib.ListN.{length, drop}
-use lib.Dec.{eqb, ltb}
+use lib.Dec.{eqb}
 use Rattle.lists.specs.Words.{cleared}
 use Rattle.graphs.specs.Graph.{Reached, met}
 use Rattle.graphs.specs.Events.{History, Event, advance-nontree, count, words}
@@ -63,9 +63,13 @@ abbrev pub RunClaim : Walker → Type 0
 RunClaim W = (w : Config) (k : ℕ) (area : List ℕ) → runNumber w k area ≡ 0 → Tested k (W .serves w (runFor k area))
 
 -- ---- demand 2: events and labels
--- The flag that at least one nontree reference was met.
+-- Circular: 1 where at least one nontree reference was met, else 0.
+abbrev pub flag : ℕ → ℕ
+flag zero = 0
+flag (suc k) = 1
+
 abbrev pub circularOf : History → ℕ
-circularOf h = cond (ltb 0 (count advance-nontree h)) 1 0
+circularOf h = flag (count advance-nontree h)
 
 pub record Labelling (g : Image) (start : ℕ) (marks : List ℕ) (l : Line) : Type 0 where
   pub events : l .config .phase ≡ finished → DepthFirst (graphOf g) [] start (reverse (l .events))

@@ -5,3 +5,4 @@ pub mod Sound
 pub mod DepthGrowth
 pub mod DepthCounts
 pub mod Depth
+pub mod Results

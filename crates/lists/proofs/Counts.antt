@@ -2,7 +2,7 @@
 -- By recursion on the list, with a member taken out of it where two lists are compared.
 use mathlib.Core.Path.{_≡_, refl, sym, ap, _∙_, subst}
 use mathlib.Core.Logic.{_≢_, _⊎_, inl, inr, _↔_}
-use mathlib.Core.Bool.{Bool, true, false, not, cond}
+use mathlib.Core.Bool.{Bool, true, false, not, cond, _||_}
 use mathlib.Core.List.{List, [], _∷_, _++_}
 use Prim.Native.Nat.{ℕ, zero, suc, _+_, _≤_, _<_}
 use native.Mathlib.Omega.{arith}
@@ -11,7 +11,7 @@ use lib.Dec.{eqb}
 use borrow.Author.Tests.{eqb-true, eqb-false, eq-eqb, ne-eqb}
 use Rattle.lists.specs.Members.{Mem, here, there, memb, NoDup, Same, consIf, without}
 use Rattle.lists.specs.Counts.{bump, countIn, sumOf, rank, allTo}
-use Rattle.lists.proofs.Tests.{both, Compared, equal, other, compare}
+use Rattle.lists.proofs.Tests.{both, zero-test, Compared, equal, other, compare}
 use Rattle.lists.proofs.Members.{mem-nil, mem-cons, mem-tail, mem-one, memb-true, memb-false, mem-memb, memb-of-not, without-mem, mem-without, without-nodup, without-none}
 
 pub bump-grow : (b : Bool) (k : ℕ) → k ≤ bump b k
@@ -127,3 +127,12 @@ all-at f (suc k) h x p q = go (compare x (suc k)) (both (allTo f k) (f (suc k)) 
 pub rank-none : (x : ℕ) (l : List ℕ) → (Mem x l → ⊥) → rank x l ≡ 0
 rank-none x [] h = refl
 rank-none x (y ∷ l) h = rw (ne-eqb x y (λ e. h (here e))) (rank-none x l (λ m. h (there m)))
+
+-- A rank is 0 exactly where nothing stands.
+pub rank-test : (x : ℕ) (l : List ℕ) → eqb (rank x l) 0 ≡ not (memb x l)
+rank-test x [] = refl
+rank-test x (y ∷ l) = go (eqb x y) (rank-test x l)
+  where
+    go : (b : Bool) → eqb (rank x l) 0 ≡ not (memb x l) → eqb (cond b (suc (length l)) (rank x l)) 0 ≡ not (b || memb x l)
+    go true ih = zero-test (suc (length l)) (omega arith)
+    go false ih = ih

@@ -3,15 +3,14 @@
 use mathlib.Core.Path.{_≡_, refl, sym, ap, _∙_}
 use mathlib.Core.Logic.{_≢_}
 use mathlib.Core.Bool.{Bool, true, false, cond}
-use mathlib.Core.List.{List, [], _∷_, _++_}
+use mathlib.Core.List.{List, [], _∷_, _++_, append-assoc}
 use Prim.Native.Nat.{ℕ, zero, suc, _+_, _-_, _≤_, _<_}
 use native.Mathlib.Omega.{arith}
 use native.Mathlib.Nat.{add-zero}
 use lib.Dec.{eqb}
-use lib.ListN.{length, getD, set, drop, replicate, length-set, length-append, length-drop, length-replicate, getD-replicate, List·getD-append}
-use lib.Seq.{set-set, set-comm, set-getD, getD-set-same, getD-set-other, set-append-left, ext-getD}
-use borrow.Author.Tests.{eq-eqb, ne-eqb}
-use Rattle.lists.specs.Counts.{rank}
+use lib.ListN.{length, getD, set, drop, replicate, length-set, length-append, length-drop, length-replicate, getD-replicate, replicate-append-replicate, List·getD-append}
+use lib.Seq.{set-set, set-comm, set-getD, getD-set-same, getD-set-other, set-append-left, drop-at}
+use borrow.Author.Tests.{ne-eqb}
 use Rattle.lists.specs.Words.{at, put, overlay, cleared, valuesFrom, filled}
 use Rattle.lists.proofs.Tests.{Compared, equal, other, compare}
 
@@ -98,3 +97,38 @@ filled-same f g k area h = ap (λ (ws : List ℕ). ws ++ drop k area) (values-sa
 
 pub cleared-filled : (k : ℕ) (area : List ℕ) → cleared k area ≡ filled (λ x. 0) k area
 cleared-filled k area = ap (λ (ws : List ℕ). ws ++ drop k area) (sym (values-zero (λ x. 0) 0 k (λ x p q. refl)))
+
+values-at : (f : ℕ → ℕ) (b k i : ℕ) → i < k → getD (valuesFrom f b k) i 0 ≡ f (suc (b + i))
+values-at f b zero i h = absurd (omega arith)
+values-at f b (suc k) zero h = ap (λ (x : ℕ). f (suc x)) (sym (add-zero b))
+values-at f b (suc k) (suc i) h = let e : suc b + i ≡ b + suc i = omega arith in values-at f (suc b) k i (omega arith) ∙ ap (λ (x : ℕ). f (suc x)) e
+
+pub at-filled : (f : ℕ → ℕ) (k : ℕ) (area : List ℕ) (x : ℕ) → 0 < x → x ≤ k → at 0 (filled f k area) x ≡ f x
+unfolding at
+at-filled f k area x h q =
+    let e : suc (0 + (x - suc zero)) ≡ x = omega arith in
+    List·getD-append (valuesFrom f 0 k) (drop k area) 0 (x - suc zero) (omega (arith, length-values f 0 k))
+    ∙ values-at f 0 k (x - suc zero) (omega arith)
+    ∙ ap f e
+
+pub length-filled : (f : ℕ → ℕ) (k : ℕ) (area : List ℕ) → k ≤ length area → length (filled f k area) ≡ length area
+length-filled f k area h = length-front (valuesFrom f 0 k) k area (length-values f 0 k) h
+
+values-append : (f : ℕ → ℕ) (b n m : ℕ) → valuesFrom f b (n + m) ≡ valuesFrom f b n ++ valuesFrom f (b + n) m
+values-append f b zero m = let e : zero + m ≡ m = omega arith in let z : b ≡ b + zero = omega arith in λ i. valuesFrom f (z i) (e i)
+values-append f b (suc n) m =
+    let e : suc n + m ≡ suc (n + m) = omega arith in
+    let z : suc b + n ≡ b + suc n = omega arith in
+    ap (λ (k : ℕ). valuesFrom f b k) e
+    ∙ ap (λ (l : List ℕ). f (suc b) ∷ l) (values-append f (suc b) n m ∙ ap (λ (c : ℕ). valuesFrom f (suc b) n ++ valuesFrom f c m) z)
+
+-- Clearing the first n words clears n + m, where the others are 0 already.
+pub clear-filled : (f : ℕ → ℕ) (n m : ℕ) (area : List ℕ) → ((x : ℕ) → n < x → x ≤ n + m → f x ≡ 0) → cleared n (filled f (n + m) area) ≡ cleared (n + m) area
+clear-filled f n m area h =
+    let split : filled f (n + m) area ≡ valuesFrom f 0 n ++ (replicate m 0 ++ drop (n + m) area) =
+    ap (λ (ws : List ℕ). ws ++ drop (n + m) area) (values-append f 0 n m ∙ ap (λ (ws : List ℕ). valuesFrom f 0 n ++ ws) (values-zero f (0 + n) m (λ x p q. h x (omega arith) (omega arith))))
+    ∙ append-assoc (valuesFrom f 0 n) (replicate m 0) (drop (n + m) area) in
+    ap (λ (l : List ℕ). replicate n 0 ++ drop n l) split
+    ∙ ap (λ (l : List ℕ). replicate n 0 ++ l) (drop-at (valuesFrom f 0 n) (replicate m 0 ++ drop (n + m) area) n (length-values f 0 n))
+    ∙ sym (append-assoc (replicate n 0) (replicate m 0) (drop (n + m) area))
+    ∙ ap (λ (l : List ℕ). l ++ drop (n + m) area) (replicate-append-replicate n m 0)
