@@ -1,3 +1,5 @@
 pub mod Bent
 pub mod Links
 pub mod Steps
+pub mod Future
+pub mod Invariant

@@ -6,3 +6,4 @@ pub mod DepthGrowth
 pub mod DepthCounts
 pub mod Depth
 pub mod Results
+pub mod Breadth
