@@ -3,3 +3,5 @@ pub mod Links
 pub mod Steps
 pub mod Future
 pub mod Invariant
+pub mod Runs
+pub mod Calls

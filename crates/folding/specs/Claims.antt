@@ -50,12 +50,12 @@ abbrev pub StepClaim : Walker → Type 0
 StepClaim W = (w : Config) (area : List ℕ) → stepNumber w area ≡ 0 → W .serves w (single area) ≡ perform w (single area)
 
 -- ---- the run's tests
--- Why a run stops: by its tests, in their order.
-abbrev pub stopReason : ℕ → Reply → Reason
-stopReason k r = cond (over (r .config)) ended (cond (eqb (r .steps) k) spent stuck)
+-- Why a run with a budget of k stops, after so many steps, here: by its tests, in their order.
+abbrev pub stopReason : ℕ → ℕ → Config → Reason
+stopReason k made w = cond (over w) ended (cond (eqb made k) spent stuck)
 
 pub record Tested (k : ℕ) (r : Reply) : Type 0 where
-  pub reason : r .answer ≡ ran (stopReason k r)
+  pub reason : r .answer ≡ ran (stopReason k (r .steps) (r .config))
   pub budget : r .steps ≤ k
   pub jammed : r .answer ≡ ran stuck → canStep (r .config) ≡ false
 

@@ -11,7 +11,8 @@ use Rattle.lists.specs.Counts.{countIn}
 use Rattle.lists.proofs.Counts.{count-mem, mem-count, count-once, count-most}
 use Rattle.lists.proofs.Members.{mem-nil, mem-cons, each-cons, pigeonhole}
 use Rattle.graphs.specs.Nodes.{Vertex}
-use Rattle.graphs.specs.Graph.{Graph, Reached}
+use Rattle.graphs.specs.Graph.{Graph, Leads, stays, along, Reached}
+use Rattle.graphs.specs.Claims.{Ready}
 
 pub record Labels (n : ℕ) (ls : List ℕ) : Type 0 where
   pub once : NoDup ls
@@ -70,3 +71,11 @@ reached-counts G off start vs us same R = record {
   once = count-once us (λ x m. (let a = same x in let b = count-most x vs (R .once) in omega arith));
   exact = λ x. (λ m. R .exact x .0 (mem-count x vs (let a = same x in let b = count-mem m in omega arith)), λ l. mem-count x us (let a = same x in let b = count-mem (R .exact x .1 l) in omega arith));
 }
+
+-- What a path leads to is a vertex.
+leads-vertex : (G : Graph) (off : List ℕ) (start : ℕ) → Ready G off start → {x : ℕ} → Leads G off start x → Vertex (G .size) x
+leads-vertex G off start R (stays e) = subst (Vertex (G .size)) (sym e) (R .start-vertex)
+leads-vertex G off start R (along {v} r l m e f) = subst (Vertex (G .size)) e (R .closed v r (leads-vertex G off start R l) m)
+
+pub reached-labels : (G : Graph) (off : List ℕ) (start : ℕ) → Ready G off start → (vs : List ℕ) → Reached G off start vs → Labels (G .size) vs
+reached-labels G off start R vs E = record { once = E .once; all = λ x m. leads-vertex G off start R (E .exact x .0 m) }

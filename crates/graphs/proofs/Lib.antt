@@ -7,3 +7,4 @@ pub mod DepthCounts
 pub mod Depth
 pub mod Results
 pub mod Breadth
+pub mod Room
