@@ -7,8 +7,8 @@ use Prim.Native.Nat.{ℕ, zero, suc, _+_, _*_, _≤_, _<_}
 use native.Mathlib.Omega.{arith}
 use native.Mathlib.Nat.{add-zero}
 use lib.ListN.{length}
-use lib.Dec.{eqb, ltb, leb}
-use borrow.Author.Tests.{le-leb, le-ltb, lt-ltb, ne-eqb}
+use lib.Dec.{ltb, leb}
+use borrow.Author.Tests.{eqb-false, le-leb, le-ltb, ne-eqb}
 use Rattle.lists.specs.Members.{Mem, here}
 use Rattle.lists.specs.Words.{at, put, cleared}
 use Rattle.lists.proofs.Tests.{clash, and-true, or-true, or-none}
@@ -211,16 +211,16 @@ module _ (g : Image) (S : Sound g) (start : ℕ) (hs : Vertex (g .n) start) (are
   by-number l c k e H = subst (λ (x : ℕ). Held (noted l c (unless x (l .config) (areaOf c) (perform (l .config) c)))) (sym e) H
 
   run-called : (l : Line) (k : ℕ) (room : List ℕ) → Held l → (b : Bool) → ltb (length room) (6 * k) ≡ b → Held (noted l (runFor k room) (serve (l .config) (runFor k room)))
-  run-called l k room H true e = by-number l (runFor k room) 3 (work-number (l .config) (6 * k) room [] true (sized (traceOf l (H .history)) (H .holds)) e) (refused-held l (runFor k room) 3 room (λ q. (let z : _≡_ {A = ℕ} 3 8 = q in omega arith)) refl H)
+  run-called l k room H true e = by-number l (runFor k room) 3 (work-number (l .config) (6 * k) room [] true (sized (traceOf l (H .history)) (H .holds)) e) (refused-held l (runFor k room) 3 room (eqb-false 3 8 refl) refl H)
   run-called l k room H false e = by-number l (runFor k room) 0 (work-number (l .config) (6 * k) room [] false (sized (traceOf l (H .history)) (H .holds)) e) (run-held l k room H)
 
   single-called : (l : Line) (room : List ℕ) → Held l → (b o : Bool) → ltb (length room) 6 ≡ b → over (l .config) ≡ o → Held (noted l (single room) (serve (l .config) (single room)))
-  single-called l room H true o e f = by-number l (single room) 3 (work-number (l .config) 6 room (refuse 8 (not (over (l .config)) && not (canStep (l .config))) ∷ refuse 9 (over (l .config)) ∷ []) true (sized (traceOf l (H .history)) (H .holds)) e) (refused-held l (single room) 3 room (λ q. (let z : _≡_ {A = ℕ} 3 8 = q in omega arith)) refl H)
+  single-called l room H true o e f = by-number l (single room) 3 (work-number (l .config) 6 room (refuse 8 (not (over (l .config)) && not (canStep (l .config))) ∷ refuse 9 (over (l .config)) ∷ []) true (sized (traceOf l (H .history)) (H .holds)) e) (refused-held l (single room) 3 room (eqb-false 3 8 refl) refl H)
   single-called l room H false true e f =
       by-number l (single room) 9
       (work-number (l .config) 6 room (refuse 8 (not (over (l .config)) && not (canStep (l .config))) ∷ refuse 9 (over (l .config)) ∷ []) false (sized (traceOf l (H .history)) (H .holds)) e
       ∙ (λ i. firstOf (refuse 8 (not (f i) && not (canStep (l .config))) ∷ refuse 9 (f i) ∷ [])))
-      (refused-held l (single room) 9 room (λ q. (let z : _≡_ {A = ℕ} 9 8 = q in omega arith)) refl H)
+      (refused-held l (single room) 9 room (eqb-false 9 8 refl) refl H)
   single-called l room H false false e f =
       let M : Moves g start area (traceOf l (H .history)) = move g start area S (traceOf l (H .history)) (H .holds) f in
       by-number l (single room) 0
@@ -229,7 +229,7 @@ module _ (g : Image) (S : Sound g) (start : ℕ) (hs : Vertex (g .n) start) (are
       (step-held l room H M)
 
   order-called : (l : Line) → Held l → (o : Bool) → over (l .config) ≡ o → Held (noted l rollBack (serve (l .config) rollBack))
-  order-called l H true f = by-number l rollBack 9 (order-number (l .config) (refuse 9 (over (l .config)) ∷ []) (sized (traceOf l (H .history)) (H .holds)) ∙ (λ i. firstOf (refuse 9 (f i) ∷ []))) (refused-held l rollBack 9 [] (λ q. (let z : _≡_ {A = ℕ} 9 8 = q in omega arith)) refl H)
+  order-called l H true f = by-number l rollBack 9 (order-number (l .config) (refuse 9 (over (l .config)) ∷ []) (sized (traceOf l (H .history)) (H .holds)) ∙ (λ i. firstOf (refuse 9 (f i) ∷ []))) (refused-held l rollBack 9 [] (eqb-false 9 8 refl) refl H)
   order-called l H false f = by-number l rollBack 0 (order-number (l .config) (refuse 9 (over (l .config)) ∷ []) (sized (traceOf l (H .history)) (H .holds)) ∙ (λ i. firstOf (refuse 9 (f i) ∷ []))) (order-held l H f)
 
   call-held : (l : Line) (c : Call) → Held l → Held (noted l c (serve (l .config) c))

@@ -5,3 +5,4 @@ pub mod Future
 pub mod Invariant
 pub mod Runs
 pub mod Calls
+pub mod Agreement

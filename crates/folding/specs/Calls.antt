@@ -155,7 +155,8 @@ openNumber g start marks area = searchNumber g start (lent (g .n + g .m) marks �
 abbrev pub openedAt : Image → ℕ → List ℕ → Config
 openedAt g start marks = record { n = g .n; m = g .m; start = start; v = start; e = at 0 (g .after) start; f = 0; phase = walking; next = 2; circular = 0; after = g .after; tail = g .tail; marks = put 0 (cleared (g .n + g .m) marks) start 1 }
 
+abbrev pub openReply : Image → ℕ → List ℕ → List ℕ → Reply
+openReply g start marks area = record { answer = taken; steps = 0; events = event label 0 start ∷ []; config = openedAt g start marks; area = overlay (words (event label 0 start ∷ [])) area }
+
 unfoldable pub opening : Image → ℕ → List ℕ → List ℕ → Reply
-opening g start marks area =
-    unless (openNumber g start marks area) (unopened g start marks) area
-    (record { answer = taken; steps = 0; events = event label 0 start ∷ []; config = openedAt g start marks; area = overlay (words (event label 0 start ∷ [])) area })
+opening g start marks area = unless (openNumber g start marks area) (unopened g start marks) area (openReply g start marks area)

@@ -1,0 +1,196 @@
+-- Demand 3, and demand 2 of the folded search: what line B's invariant says of the line.
+-- By the phase; line A's advances are the references met, its scans the elements reached.
+use mathlib.Core.Path.{_≡_, refl, sym, ap, _∙_, subst}
+use mathlib.Core.Logic.{_↔_, _≢_, _⊎_, inl, inr}
+use mathlib.Core.Bool.{Bool, true, false, cond}
+use mathlib.Core.List.{List, [], _∷_, append-nil, reverse, reverse-reverse, IsPrefix, IsSuffix}
+use Prim.Native.Nat.{ℕ, suc, _+_, _*_, _≤_, _<_}
+use native.Mathlib.Omega.{arith}
+use lib.ListN.{length}
+use lib.Dec.{eqb}
+use borrow.Author.Tests.{eqb-true, eqb-false}
+use Rattle.lists.specs.Members.{Same}
+use Rattle.lists.specs.Words.{cleared}
+use Rattle.lists.proofs.Tests.{clash}
+use Rattle.lists.proofs.Counts.{same-sum, same-length}
+use Rattle.graphs.specs.Nodes.{Vertex}
+use Rattle.graphs.specs.Graph.{Reached, met}
+use Rattle.graphs.specs.Events.{Event, event, label, scan, advance-nontree, History, labelled, scanned, count}
+use Rattle.graphs.specs.Depth.{DepthFirst}
+use Rattle.graphs.specs.Results.{marksLeft}
+use Rattle.graphs.specs.Image.{Image, graphOf}
+use Rattle.graphs.specs.Refusals.{lent}
+use Rattle.graphs.specs.Claims.{Ready, DepthClaim}
+use Rattle.graphs.proofs.Refusals.{long}
+use Rattle.graphs.proofs.Sound.{Sound, Profile, profile-sound, met-most}
+use Rattle.graphs.proofs.Labels.{labels-few, reached-labels}
+use Rattle.graphs.proofs.Results.{named-length}
+use Rattle.graphs.proofs.Depth.{depth-first, depth-relates}
+use Rattle.graphs.proofs.Room.{profile-ready}
+use Rattle.folding.specs.Machine.{Config, walking, restoring, finished, rollingBack, rolledBack}
+use Rattle.folding.specs.Calls.{ended, spent, stuck, taken, Reply, unless, over, run, Call, runFor, opening, openNumber, unopened, openedAt, openReply}
+use Rattle.folding.specs.Lines.{Line, begun, calls, lineA, lineB, folded}
+use Rattle.folding.specs.Claims.{circularOf, Faultless, Labelling, Demand2, Agrees, Agreement}
+use Rattle.folding.proofs.Bent.{Frame, configAt}
+use Rattle.folding.proofs.Future.{allOf, finishing, advances, scans, Short, short, prefix-of}
+use Rattle.folding.proofs.Invariant.{Trace, Scene, Closed, Holds, at-walking, at-restoring, at-rolling, at-end, at-undone, weight}
+use Rattle.folding.proofs.Calls.{traceOf, Held, calls-held, opened-held}
+
+-- ---- line A's counts
+module _ (g : Image) (start : ℕ) (R : Ready (graphOf g) [] start) (vs : List ℕ) (E : Reached (graphOf g) [] start vs) where
+  -- Two lists of the reached vertices have the same members.
+  same-reached : (us : List ℕ) → Reached (graphOf g) [] start us → Same us vs
+  same-reached us F x = (λ m. E .exact x .1 (F .exact x .0 m), λ m. F .exact x .1 (E .exact x .0 m))
+
+  met-is : advances (allOf g start) ≡ met (graphOf g) vs
+  met-is =
+      let D = depth-first (graphOf g) [] start R in
+      D .advances ∙ same-sum (λ u. length (graphOf g .out u)) (labelled (allOf g start)) vs (D .complete .labels .once) (E .once) (same-reached (labelled (allOf g start)) (D .complete .labels))
+
+  reached-is : scans (allOf g start) ≡ length vs
+  reached-is =
+      let D = depth-first (graphOf g) [] start R in
+      sym (named-length scan (allOf g start)) ∙ same-length (scanned (allOf g start)) vs (D .complete .scans .once) (E .once) (same-reached (scanned (allOf g start)) (D .complete .scans))
+
+-- ---- what the invariant says
+module _ (g : Image) (S : Sound g) (start : ℕ) (hs : Vertex (g .n) start) (area : List ℕ) (lm : g .n + g .m ≤ length area) where
+  R : Ready (graphOf g) [] start
+  R = profile-ready g S start hs
+
+  -- The phase of a place.
+  phase-is : (ph k : ℕ) (t : Trace) (v : ℕ) (done rest : List ℕ) (s : List Frame) (stale : ℕ) → Scene g start area ph t v done rest s stale → (ph ≡ k → ⊥) → t .config .phase ≡ k → ⊥
+  phase-is ph k t v done rest s stale C ne e = ne (sym (ap (λ (w : Config). w .phase) (C .is-config)) ∙ e)
+
+  -- There is a step to come, so nothing is said of the links.
+  not-closed : {A : Type 0} (w : Config) → (w .phase ≡ finished → ⊥) → (w .phase ≡ rolledBack → ⊥) → (w .phase ≡ finished) ⊎ (w .phase ≡ rolledBack) → A
+  not-closed w x3 x5 (inl e) = absurd (x3 e)
+  not-closed w x3 x5 (inr e) = absurd (x5 e)
+
+  history-is : (l : Line) (H : Held g S start hs area lm l) → reverse (l .events) ≡ H .history
+  history-is l H = ap reverse (H .events) ∙ reverse-reverse (H .history)
+
+  agrees-open : (ph : ℕ) (l : Line) (H : Held g S start hs area lm l) (v : ℕ) (done rest ahead : List ℕ) (s : List Frame) (stale : ℕ) (vs : List ℕ) → Reached (graphOf g) [] start vs → (ph ≡ finished → ⊥) → (ph ≡ rolledBack → ⊥)
+      → Scene g start area ph (traceOf l (H .history)) v done rest s stale → finishing g s v ahead (H .history) ≡ allOf g start → l .rolling ≡ false → l .steps + weight done s ≡ 2 * advances (H .history) + scans (H .history) → Agrees g start vs l
+  agrees-open ph l H v done rest ahead s stale vs E n3 n5 C fut calm cnt =
+      let sh : Short (H .history) (allOf g start) = subst (Short (H .history)) fut (short g s v ahead (H .history)) in
+      let x3 : l .config .phase ≡ finished → ⊥ = phase-is ph finished (traceOf l (H .history)) v done rest s stale C n3 in
+      let x5 : l .config .phase ≡ rolledBack → ⊥ = phase-is ph rolledBack (traceOf l (H .history)) v done rest s stale C n5 in
+      let a = met-is g start R vs E in
+      let b = reached-is g start R vs E in
+      record {
+        first = subst (λ (es : List Event). IsPrefix es (lineA g start)) (sym (H .events)) (prefix-of (sh .first));
+        ends = λ z. (λ e. absurd (x3 e), λ e. (let q : l .steps ≡ 2 * met (graphOf g) vs + length vs = e in absurd (omega arith)));
+        all = λ z e. absurd (x3 e);
+        bound = λ z. clash (sym z ∙ calm);
+        below = λ z y. clash (sym z ∙ calm);
+        restored = not-closed (l .config) x3 x5;
+        faultless = H .faultless;
+      }
+
+  agrees-of : (l : Line) (H : Held g S start hs area lm l) → Holds g start area (traceOf l (H .history)) → (vs : List ℕ) → Reached (graphOf g) [] start vs → Agrees g start vs l
+  agrees-of l H (at-walking v done rest s stale C fut calm cnt) vs E = agrees-open walking l H v done rest rest s stale vs E (eqb-false walking finished refl) (eqb-false walking rolledBack refl) C fut calm cnt
+  agrees-of l H (at-restoring v done rest s stale C fut calm cnt) vs E = agrees-open restoring l H v done rest [] s stale vs E (eqb-false restoring finished refl) (eqb-false restoring rolledBack refl) C fut calm cnt
+  agrees-of l H (at-rolling v done rest s stale C sh ro cnt) vs E =
+      let x3 : l .config .phase ≡ finished → ⊥ = phase-is rollingBack finished (traceOf l (H .history)) v done rest s stale C (eqb-false rollingBack finished refl) in
+      let x5 : l .config .phase ≡ rolledBack → ⊥ = phase-is rollingBack rolledBack (traceOf l (H .history)) v done rest s stale C (eqb-false rollingBack rolledBack refl) in
+      let a = met-is g start R vs E in
+      let b = reached-is g start R vs E in
+      record {
+        first = subst (λ (es : List Event). IsPrefix es (lineA g start)) (sym (H .events)) (prefix-of (sh .first));
+        ends = λ z. clash (sym ro ∙ z);
+        all = λ z e. absurd (x3 e);
+        bound = λ z. omega arith;
+        below = λ z y. omega arith;
+        restored = not-closed (l .config) x3 x5;
+        faultless = H .faultless;
+      }
+  agrees-of l H (at-end K e calm cnt) vs E =
+      let all : l .events ≡ lineA g start = H .events ∙ ap reverse e in
+      let tot : 2 * advances (allOf g start) + scans (allOf g start) ≡ 2 * met (graphOf g) vs + length vs = λ i. 2 * met-is g start R vs E i + reached-is g start R vs E i in
+      record {
+        first = ([], append-nil (l .events) ∙ all);
+        ends = λ z. (λ q. cnt ∙ tot, λ q. ap (λ (w : Config). w .phase) (K .is-config));
+        all = λ z q. all;
+        bound = λ z. clash (sym z ∙ calm);
+        below = λ z y. clash (sym z ∙ calm);
+        restored = λ q. (ap (λ (w : Config). w .after) (K .is-config), ap (λ (w : Config). w .tail) (K .is-config));
+        faultless = H .faultless;
+      }
+  agrees-of l H (at-undone K x ro cnt) vs E =
+      let a = met-is g start R vs E in
+      let b = reached-is g start R vs E in
+      record {
+        first = subst (λ (es : List Event). IsPrefix es (lineA g start)) (sym (H .events)) (prefix-of x);
+        ends = λ z. clash (sym ro ∙ z);
+        all = λ z q. clash (sym ro ∙ z);
+        bound = λ z. omega arith;
+        below = λ z y. absurd (y (ap (λ (w : Config). w .phase) (K .is-config)));
+        restored = λ q. (ap (λ (w : Config). w .after) (K .is-config), ap (λ (w : Config). w .tail) (K .is-config));
+        faultless = H .faultless;
+      }
+
+  -- ---- labels
+  -- What a place says: nothing has ended, and circular is what the events say.
+  labelling-open : (ph : ℕ) (l : Line) (H : Held g S start hs area lm l) (v : ℕ) (done rest : List ℕ) (s : List Frame) (stale : ℕ) → (ph ≡ finished → ⊥) → (ph ≡ rolledBack → ⊥) → Scene g start area ph (traceOf l (H .history)) v done rest s stale → Labelling g start area l
+  labelling-open ph l H v done rest s stale n3 n5 C = record {
+    events = λ e. absurd (phase-is ph finished (traceOf l (H .history)) v done rest s stale C n3 e);
+    labels = λ e. absurd (phase-is ph finished (traceOf l (H .history)) v done rest s stale C n3 e);
+    no-labels = λ e. absurd (phase-is ph rolledBack (traceOf l (H .history)) v done rest s stale C n5 e);
+    circular = ap (λ (w : Config). w .circular) (C .is-config) ∙ ap circularOf (sym (history-is l H));
+  }
+
+  labelling-of : (l : Line) (H : Held g S start hs area lm l) → Holds g start area (traceOf l (H .history)) → Labelling g start area l
+  labelling-of l H (at-walking v done rest s stale C fut calm cnt) = labelling-open walking l H v done rest s stale (eqb-false walking finished refl) (eqb-false walking rolledBack refl) C
+  labelling-of l H (at-restoring v done rest s stale C fut calm cnt) = labelling-open restoring l H v done rest s stale (eqb-false restoring finished refl) (eqb-false restoring rolledBack refl) C
+  labelling-of l H (at-rolling v done rest s stale C sh ro cnt) = labelling-open rollingBack l H v done rest s stale (eqb-false rollingBack finished refl) (eqb-false rollingBack rolledBack refl) C
+  labelling-of l H (at-end K e calm cnt) =
+      record {
+        events = λ q. subst (DepthFirst (graphOf g) [] start) (sym (history-is l H ∙ e)) (depth-relates (graphOf g) [] start R);
+        labels = λ q. ap (λ (w : Config). w .marks) (K .is-config) ∙ ap (λ (h : History). marksLeft (g .n + g .m) h area) (sym (history-is l H));
+        no-labels = λ q. absurd (eqb-false finished rolledBack refl (sym (ap (λ (w : Config). w .phase) (K .is-config)) ∙ q));
+        circular = ap (λ (w : Config). w .circular) (K .is-config) ∙ ap circularOf (sym (history-is l H));
+      }
+  labelling-of l H (at-undone K x ro cnt) =
+      record {
+        events = λ q. absurd (eqb-false rolledBack finished refl (sym (ap (λ (w : Config). w .phase) (K .is-config)) ∙ q));
+        labels = λ q. absurd (eqb-false rolledBack finished refl (sym (ap (λ (w : Config). w .phase) (K .is-config)) ∙ q));
+        no-labels = λ q. ap (λ (w : Config). w .marks) (K .is-config);
+        circular = ap (λ (w : Config). w .circular) (K .is-config) ∙ ap circularOf (sym (history-is l H));
+      }
+
+  -- ---- a run that is long enough
+  -- While there is a step to come, and no order was taken, fewer steps were made than in all.
+  under-way : (t : Trace) → Holds g start area t → t .rolling ≡ false → (t .config .phase ≡ finished) ⊎ (t .steps < 2 * advances (allOf g start) + scans (allOf g start))
+  under-way t (at-walking v done rest s stale C fut calm cnt) z = let sh = subst (Short (t .history)) fut (short g s v rest (t .history)) in inr (omega (arith, sh .advanced, sh .to-scan))
+  under-way t (at-restoring v done rest s stale C fut calm cnt) z = let sh = subst (Short (t .history)) fut (short g s v [] (t .history)) in inr (omega (arith, sh .advanced, sh .to-scan))
+  under-way t (at-rolling v done rest s stale C sh ro cnt) z = clash (sym ro ∙ z)
+  under-way t (at-end K e calm cnt) z = inl (ap (λ (w : Config). w .phase) (K .is-config))
+  under-way t (at-undone K x ro cnt) z = clash (sym ro ∙ z)
+
+-- ---- the claims
+-- What an opening taken leaves meets the invariant, and so does every list of calls.
+module _ (g : Image) (start : ℕ) (marks area : List ℕ) (h : openNumber g start marks area ≡ 0) where
+  profile : Profile g start (lent (g .n + g .m) marks ∷ lent 3 area ∷ [])
+  profile = profile-sound g start (lent (g .n + g .m) marks ∷ lent 3 area ∷ []) h
+
+  marks-long : g .n + g .m ≤ length marks
+  marks-long = long (g .n + g .m) marks (lent 3 area ∷ []) (profile .areas-long) .0
+
+  held : (cs : List Call) → Held g (profile .sound) start (profile .start-vertex) marks marks-long (lineB folded g start marks area cs)
+  unfolding opening
+  held cs =
+      calls-held g (profile .sound) start (profile .start-vertex) marks marks-long (begun (opening g start marks area)) cs
+      (opened-held g (profile .sound) start (profile .start-vertex) marks marks-long (begun (opening g start marks area))
+      (reply (λ r. r .config ≡ openedAt g start marks) refl)
+      (reply (λ r. r .events ≡ event label 0 start ∷ []) refl)
+      refl refl refl
+      (reply (λ r. Faultless (r .answer ∷ [])) tt))
+    where
+      reply : (P : Reply → Type 0) → P (openReply g start marks area) → P (opening g start marks area)
+      reply P p = subst (λ (k : ℕ). P (unless k (unopened g start marks) area (openReply g start marks area))) (sym h) p
+
+pub agreement : Agreement folded
+agreement g start marks area h vs E cs =
+    let H = held g start marks area h cs in
+    let P = profile g start marks area h in
+    agrees-of g (P .sound) start (P .start-vertex) marks (marks-long g start marks area h) (lineB folded g start marks area cs) H (H .holds) vs E
