@@ -28,13 +28,14 @@ use Rattle.graphs.proofs.Results.{named-length}
 use Rattle.graphs.proofs.Depth.{depth-first, depth-relates}
 use Rattle.graphs.proofs.Room.{profile-ready}
 use Rattle.folding.specs.Machine.{Config, walking, restoring, finished, rollingBack, rolledBack}
-use Rattle.folding.specs.Calls.{ended, spent, stuck, taken, Reply, unless, over, run, Call, runFor, opening, openNumber, unopened, openedAt, openReply}
+use Rattle.folding.specs.Calls.{Reason, ended, spent, stuck, Reply, unless, over, run, Call, runFor, numberOf, perform, serve, opening, openNumber, unopened, openedAt, openReply}
 use Rattle.folding.specs.Lines.{Line, begun, calls, lineA, lineB, folded}
-use Rattle.folding.specs.Claims.{circularOf, Faultless, Labelling, Demand2, Agrees, Agreement}
+use Rattle.folding.specs.Claims.{circularOf, stopReason, Faultless, Labelling, Demand2, Agrees, Agreement}
 use Rattle.folding.proofs.Bent.{Frame, configAt}
 use Rattle.folding.proofs.Future.{allOf, finishing, advances, scans, Short, short, prefix-of}
 use Rattle.folding.proofs.Invariant.{Trace, Scene, Closed, Holds, at-walking, at-restoring, at-rolling, at-end, at-undone, weight}
-use Rattle.folding.proofs.Calls.{traceOf, Held, calls-held, opened-held}
+use Rattle.folding.proofs.Runs.{Free, run-stops, advance, Ran, run-holds}
+use Rattle.folding.proofs.Calls.{traceOf, Held, run-number, calls-held, opened-held}
 
 -- ---- line A's counts
 module _ (g : Image) (start : ℕ) (R : Ready (graphOf g) [] start) (vs : List ℕ) (E : Reached (graphOf g) [] start vs) where
@@ -159,13 +160,39 @@ module _ (g : Image) (S : Sound g) (start : ℕ) (hs : Vertex (g .n) start) (are
       }
 
   -- ---- a run that is long enough
-  -- While there is a step to come, and no order was taken, fewer steps were made than in all.
-  under-way : (t : Trace) → Holds g start area t → t .rolling ≡ false → (t .config .phase ≡ finished) ⊎ (t .steps < 2 * advances (allOf g start) + scans (allOf g start))
-  under-way t (at-walking v done rest s stale C fut calm cnt) z = let sh = subst (Short (t .history)) fut (short g s v rest (t .history)) in inr (omega (arith, sh .advanced, sh .to-scan))
-  under-way t (at-restoring v done rest s stale C fut calm cnt) z = let sh = subst (Short (t .history)) fut (short g s v [] (t .history)) in inr (omega (arith, sh .advanced, sh .to-scan))
+  -- While no order was taken: ended, or a step is to come and fewer were made than in all.
+  under-way : (t : Trace) → Holds g start area t → t .rolling ≡ false → (t .config .phase ≡ finished) ⊎ ((over (t .config) ≡ false) × (t .steps < 2 * advances (allOf g start) + scans (allOf g start)))
+  under-way t (at-walking v done rest s stale C fut calm cnt) z = let sh = subst (Short (t .history)) fut (short g s v rest (t .history)) in inr (ap over (C .is-config), omega (arith, sh .advanced, sh .to-scan))
+  under-way t (at-restoring v done rest s stale C fut calm cnt) z = let sh = subst (Short (t .history)) fut (short g s v [] (t .history)) in inr (ap over (C .is-config), omega (arith, sh .advanced, sh .to-scan))
   under-way t (at-rolling v done rest s stale C sh ro cnt) z = clash (sym ro ∙ z)
   under-way t (at-end K e calm cnt) z = inl (ap (λ (w : Config). w .phase) (K .is-config))
   under-way t (at-undone K x ro cnt) z = clash (sym ro ∙ z)
+
+  -- All steps are at most 2 m + n.
+  total-most : 2 * advances (allOf g start) + scans (allOf g start) ≤ 2 * g .m + g .n
+  total-most =
+      let E = depth-first (graphOf g) [] start R .complete .labels in
+      let L = reached-labels (graphOf g) [] start R (labelled (allOf g start)) E in
+      omega (arith, met-is g start R (labelled (allOf g start)) E, reached-is g start R (labelled (allOf g start)) E, met-most g S (labelled (allOf g start)) L, labels-few (g .n) (labelled (allOf g start)) L)
+
+  -- A run that says spent or ended, and is not over, has spent its budget.
+  spent-all : (k made : ℕ) (w : Config) (why : Reason) → why ≡ stopReason k made w → Free why → over w ≡ false → made ≡ k
+  spent-all k made w why e f o = go (eqb made k) refl
+    where
+      go : (b : Bool) → eqb made k ≡ b → made ≡ k
+      go true q = eqb-true made k q
+      go false q = absurd (subst Free (e ∙ (λ i. cond (o i) ended (cond (q i) spent stuck))) f)
+
+  run-ends : (l : Line) (k : ℕ) → Held g S start hs area lm l → l .steps ≡ 0 → l .rolling ≡ false → 2 * g .m + g .n ≤ k → run k (l .config) .config .phase ≡ finished
+  run-ends l k H z calm big =
+      let T : Ran g S start area (traceOf l (H .history)) (run k (l .config)) = run-holds g S start area k (traceOf l (H .history)) (H .holds) (H .calm) in
+      go (under-way (advance (traceOf l (H .history)) (run k (l .config))) (T .holds) calm) (T .free)
+    where
+      go : (run k (l .config) .config .phase ≡ finished) ⊎ ((over (run k (l .config) .config) ≡ false) × (l .steps + run k (l .config) .steps < 2 * advances (allOf g start) + scans (allOf g start))) → Free (run k (l .config) .reason) → run k (l .config) .config .phase ≡ finished
+      go (inl e) f = e
+      go (inr q) f =
+          let all : run k (l .config) .steps ≡ k = spent-all k (run k (l .config) .steps) (run k (l .config) .config) (run k (l .config) .reason) (run-stops k (l .config) .reason) f (q .0) in
+          absurd (omega (arith, q .1, total-most))
 
 -- ---- the claims
 -- What an opening taken leaves meets the invariant, and so does every list of calls.
@@ -194,3 +221,22 @@ agreement g start marks area h vs E cs =
     let H = held g start marks area h cs in
     let P = profile g start marks area h in
     agrees-of g (P .sound) start (P .start-vertex) marks (marks-long g start marks area h) (lineB folded g start marks area cs) H (H .holds) vs E
+
+ending : (g : Image) (start : ℕ) (marks area : List ℕ) → openNumber g start marks area ≡ 0 → (k : ℕ) (room : List ℕ) → 2 * g .m + g .n ≤ k → 6 * k ≤ length room → lineB folded g start marks area (runFor k room ∷ []) .config .phase ≡ finished
+unfolding calls serve
+ending g start marks area h k room big long-room =
+    let P = profile g start marks area h in
+    let l = begun (opening g start marks area) in
+    let H = held g start marks area h [] in
+    let n : numberOf (begun (opening g start marks area) .config) (runFor k room) ≡ 0 = run-number g (P .sound) start (P .start-vertex) marks (marks-long g start marks area h) (begun (opening g start marks area)) k room H long-room in
+    ap (λ (x : ℕ). unless x (l .config) room (perform (l .config) (runFor k room)) .config .phase) n
+    ∙ run-ends g (P .sound) start (P .start-vertex) marks (marks-long g start marks area h) (begun (opening g start marks area)) k H refl refl big
+
+pub demand2 : Demand2 folded
+demand2 = record {
+  labelling = λ g start marks area h cs.
+      let H = held g start marks area h cs in
+      let P = profile g start marks area h in
+      labelling-of g (P .sound) start (P .start-vertex) marks (marks-long g start marks area h) (lineB folded g start marks area cs) H (H .holds);
+  ending = ending;
+}

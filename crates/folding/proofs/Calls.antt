@@ -210,6 +210,10 @@ module _ (g : Image) (S : Sound g) (start : ℕ) (hs : Vertex (g .n) start) (are
   unfolding serve
   by-number l c k e H = subst (λ (x : ℕ). Held (noted l c (unless x (l .config) (areaOf c) (perform (l .config) c)))) (sym e) H
 
+  -- A run with room for its events is not refused.
+  pub run-number : (l : Line) (k : ℕ) (room : List ℕ) → Held l → 6 * k ≤ length room → numberOf (l .config) (runFor k room) ≡ 0
+  run-number l k room H e = work-number (l .config) (6 * k) room [] false (sized (traceOf l (H .history)) (H .holds)) (le-ltb (length room) (6 * k) e)
+
   run-called : (l : Line) (k : ℕ) (room : List ℕ) → Held l → (b : Bool) → ltb (length room) (6 * k) ≡ b → Held (noted l (runFor k room) (serve (l .config) (runFor k room)))
   run-called l k room H true e = by-number l (runFor k room) 3 (work-number (l .config) (6 * k) room [] true (sized (traceOf l (H .history)) (H .holds)) e) (refused-held l (runFor k room) 3 room (eqb-false 3 8 refl) refl H)
   run-called l k room H false e = by-number l (runFor k room) 0 (work-number (l .config) (6 * k) room [] false (sized (traceOf l (H .history)) (H .holds)) e) (run-held l k room H)
