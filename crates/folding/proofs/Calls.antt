@@ -11,10 +11,10 @@ use lib.Dec.{ltb, leb}
 use borrow.Author.Tests.{eqb-false, le-leb, le-ltb, ne-eqb}
 use Rattle.lists.specs.Members.{Mem, here}
 use Rattle.lists.specs.Words.{at, put, cleared}
-use Rattle.lists.proofs.Tests.{clash, and-true, or-true, or-none}
+use Rattle.lists.proofs.Tests.{clash, or-true, or-none}
 use Rattle.lists.proofs.Members.{mem-nil}
 use Rattle.lists.proofs.Words.{length-put, put-at, length-cleared}
-use Rattle.graphs.specs.Nodes.{Vertex, isVertex, isLink, isNode}
+use Rattle.graphs.specs.Nodes.{Vertex}
 use Rattle.graphs.specs.Events.{Event, event, label, advance-nontree, count, History, _▸_, labelled}
 use Rattle.graphs.specs.Search.{depthFirst}
 use Rattle.graphs.specs.Results.{marksLeft}
@@ -34,6 +34,7 @@ use Rattle.folding.proofs.Links.{length-bend, length-bentAfter, length-
 use Rattle.folding.proofs.Steps.{link-rest, node-top}
 use Rattle.folding.proofs.Future.{allOf, finishing, Short, short, in-order}
 use Rattle.folding.proofs.Invariant.{Trace, tick, Scene, Closed, Holds, at-walking, at-restoring, at-rolling, at-end, at-undone, Moves, move}
+use Rattle.folding.proofs.Fields.{fields-yes}
 use Rattle.folding.proofs.Runs.{advance, Calm, calm-more, Free, Ran, run-holds}
 
 flag-bit : (k : ℕ) → flag k ≤ 1
@@ -78,9 +79,6 @@ module _ (g : Image) (S : Sound g) (start : ℕ) (hs : Vertex (g .n) start) (are
         fields = k;
       }
 
-  fields-yes : (w : Config) → isVertex (w .n) (w .v) ≡ true → isLink (w .n) (w .m) (w .e) ≡ true → isNode (w .n) (w .m) (w .f) ≡ true → (ltb 0 (w .phase) && leb (w .phase) 6) ≡ true → 2 ≤ w .next → w .next ≤ suc (w .n) → w .circular ≤ 1 → fieldsIn w ≡ true
-  fields-yes w a b c d x y z = and-true a (and-true b (and-true c (and-true d (and-true (and-true (le-leb 2 (w .next) x) (le-leb (w .next) (suc (w .n)) y)) (le-leb (w .circular) 1 z)))))
-
   -- The next label number is in 2 to n + 1.
   next-in : (ls : List ℕ) (v : ℕ) → Labels (g .n) ls → Mem v ls → (2 ≤ suc (length ls)) × (suc (length ls) ≤ suc (g .n))
   next-in [] v L m = absurd (mem-nil m)
@@ -96,7 +94,7 @@ module _ (g : Image) (S : Sound g) (start : ℕ) (hs : Vertex (g .n) start) (are
       (length-bend done (parent s) (put 0 (bentAfter g s) v stale) ∙ length-put 0 (bentAfter g s) v stale ∙ length-bentAfter g s)
       (length-bentTail g s)
       (marks-length (g .n + g .m) h area long)
-      (fields-yes (configAt g start area ph v done rest s stale h) (vertex-yes (g .n) v (P .vertex)) (link-rest g S start v done rest (P .vertex) (P .list)) (node-top g S start v done rest s (P .vertex) (P .list) (P .above)) k (n .0) (n .1) (flag-bit (count advance-nontree h))))
+      (fields-yes (configAt g start area ph v done rest s stale h) (record { v-in = vertex-yes (g .n) v (P .vertex); e-in = link-rest g S start v done rest (P .vertex) (P .list); f-in = node-top g S start v done rest s (P .vertex) (P .list) (P .above); phase-in = k; next-low = n .0; next-high = n .1; circular-in = flag-bit (count advance-nontree h) })))
 
   closed-sized : (ph : ℕ) (marks : List ℕ) (t : Trace) → (ltb 0 ph && leb ph 6) ≡ true → length marks ≡ length area → Closed g start area ph marks t → Sized (t .config)
   closed-sized ph marks t k lm K =
@@ -104,7 +102,7 @@ module _ (g : Image) (S : Sound g) (start : ℕ) (hs : Vertex (g .n) start) (are
       let n = next-in (labelled h) start (K .labels) (K .seen) in
       subst Sized (sym (K .is-config))
       (sized-at (configEnd g start ph (K .e) marks h) refl refl refl refl refl lm
-      (fields-yes (configEnd g start ph (K .e) marks h) (vertex-yes (g .n) start hs) (K .link) (le-leb 0 (g .n + g .m) (omega arith)) k (n .0) (n .1) (flag-bit (count advance-nontree h))))
+      (fields-yes (configEnd g start ph (K .e) marks h) (record { v-in = vertex-yes (g .n) start hs; e-in = K .link; f-in = le-leb 0 (g .n + g .m) (omega arith); phase-in = k; next-low = n .0; next-high = n .1; circular-in = flag-bit (count advance-nontree h) })))
 
   sized : (t : Trace) → Holds g start area t → Sized (t .config)
   sized t (at-walking v done rest s stale C fut calm cnt) = scene-sized walking t v done rest s stale refl C

@@ -4,5 +4,8 @@ pub mod Steps
 pub mod Future
 pub mod Invariant
 pub mod Runs
+pub mod Fields
 pub mod Calls
 pub mod Agreement
+pub mod Confined
+pub mod AnyInput

@@ -25,8 +25,8 @@ pub link-of-edge : (n m x : ℕ) → isEdge n m x ≡ true → isLink n m x ≡ 
 link-of-edge n m x h = ap (λ (b : Bool). eqb x 0 || b) h ∙ or-true (eqb x 0)
 
 -- A link that is not null is an edge.
-pub link-edge : (n m y : ℕ) → isLink n m (suc y) ≡ true → Edge n m (suc y)
-link-edge n m y h = edge-is n m (suc y) (sym (ap (λ (b : Bool). b || isEdge n m (suc y)) (ne-eqb (suc y) 0 (λ e. (let q : suc y ≡ 0 = e in omega arith)))) ∙ h)
+pub link-not-null : (n m x : ℕ) → isLink n m x ≡ true → (x ≡ 0 → ⊥) → Edge n m x
+link-not-null n m x h ne = edge-is n m x (sym (ap (λ (b : Bool). b || isEdge n m x) (ne-eqb x 0 ne)) ∙ h)
 
 pub link-node : (n m x : ℕ) → isLink n m x ≡ true → isNode n m x ≡ true
 link-node n m x h = go (eqb x 0) refl h

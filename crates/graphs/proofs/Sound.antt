@@ -19,7 +19,7 @@ use Rattle.graphs.specs.Nodes.{Vertex, Edge, isVertex, isLink}
 use Rattle.graphs.specs.Graph.{Closed, met}
 use Rattle.graphs.specs.Image.{Image, chain, edgesOf, to, graphOf, listsTo}
 use Rattle.graphs.specs.Refusals.{refuse, firstOf, Lent, lent, short, verticesOut, edgesOut, vertexOut, afterOut, tailOut, listOut, imageAreas, imageRefusals, imageNumber, searchNumber}
-use Rattle.graphs.proofs.Nodes.{vertex-is, link-edge}
+use Rattle.graphs.proofs.Nodes.{vertex-is, link-not-null}
 use Rattle.graphs.proofs.Labels.{Labels}
 use Rattle.graphs.proofs.Refusals.{passes, long}
 
@@ -57,7 +57,7 @@ chain-edges : (n m : ℕ) (after : List ℕ) → ((x : ℕ) → 0 < x → x ≤ 
 chain-edges n m after h zero x hx r q = absurd (mem-nil q)
 chain-edges n m after h (suc k) zero hx r q = absurd (mem-nil q)
 chain-edges n m after h (suc k) (suc y) hx r q =
-    let e : Edge n m (suc y) = link-edge n m y hx in
+    let e : Edge n m (suc y) = link-not-null n m (suc y) hx (omega arith) in
     each-cons (Edge n m) (suc y) (chain k after (at 0 after (suc y))) e (λ z p. chain-edges n m after h k (at 0 after (suc y)) (h (suc y) (omega arith) (e .1)) z p) r q
 
 -- A chain shorter than its fuel has come to its end.

@@ -9,7 +9,7 @@ use native.Mathlib.Omega.{arith}
 use native.Mathlib.Nat.{add-zero}
 use lib.Dec.{eqb}
 use lib.ListN.{length, getD, set, drop, replicate, length-set, length-append, length-drop, length-replicate, getD-replicate, replicate-append-replicate, List·getD-append}
-use lib.Seq.{set-set, set-comm, set-getD, getD-set-same, getD-set-other, set-append-left, drop-at}
+use lib.Seq.{set-set, set-comm, set-getD, getD-set-same, getD-set-other, set-append-left, drop-at, drop-set-lt, drop-append-add, drop-append-seam, drop-drop}
 use borrow.Author.Tests.{ne-eqb}
 use Rattle.lists.specs.Words.{at, put, overlay, cleared, valuesFrom, filled}
 use Rattle.lists.proofs.Tests.{Compared, equal, other, compare}
@@ -42,12 +42,31 @@ module _ (b : ℕ) where
   unfolding put at
   at-other area x y w hx hy ne = getD-set-other area (x - suc b) (y - suc b) w 0 (apart y x hy hx ne)
 
+  -- A store leaves the words past k, if its node is one of b + 1 to b + k.
+  pub put-past : (k : ℕ) (area : List ℕ) (x w : ℕ) → b < x → x ≤ b + k → drop k (put b area x w) ≡ drop k area
+  unfolding put
+  put-past k area x w h q = drop-set-lt k area (x - suc b) w (omega arith)
+
 -- ---- filled areas
 length-front : (ws : List ℕ) (k : ℕ) (area : List ℕ) → length ws ≡ k → k ≤ length area → length (ws ++ drop k area) ≡ length area
 length-front ws k area e h = omega (arith, length-append ws (drop k area), length-drop k area)
 
 pub length-cleared : (k : ℕ) (area : List ℕ) → k ≤ length area → length (cleared k area) ≡ length area
 length-cleared k area h = length-front (replicate k 0) k area (length-replicate {A = ℕ} k 0) h
+
+-- Clearing n words leaves those past n + m.
+pub cleared-past : (n m : ℕ) (area : List ℕ) → drop (n + m) (cleared n area) ≡ drop (n + m) area
+cleared-past n m area =
+    let e : length (replicate {A = ℕ} n 0) ≡ n = length-replicate {A = ℕ} n 0 in
+    ap (λ (k : ℕ). drop (k + m) (cleared n area)) (sym e)
+    ∙ drop-append-add (replicate n 0) (drop n area) m
+    ∙ drop-drop m n area
+
+pub overlay-past : (ws area : List ℕ) → drop (length ws) (overlay ws area) ≡ drop (length ws) area
+overlay-past ws area = drop-append-seam ws (drop (length ws) area)
+
+pub length-overlay : (ws area : List ℕ) → length ws ≤ length area → length (overlay ws area) ≡ length area
+length-overlay ws area h = length-front ws (length ws) area refl h
 
 pub length-values : (f : ℕ → ℕ) (b k : ℕ) → length (valuesFrom f b k) ≡ k
 length-values f b zero = refl

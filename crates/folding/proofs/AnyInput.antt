@@ -1,0 +1,165 @@
+-- Demand 1 of the folded search, on any input; the claims on single steps and on the run's tests.
+-- A call that is not refused has long areas and fields in kind, and then stays within its areas.
+use mathlib.Core.Path.{_≡_, refl, sym, ap, _∙_, subst}
+use mathlib.Core.Logic.{_≢_}
+use mathlib.Core.Bool.{Bool, true, false, not, _&&_}
+use mathlib.Core.List.{List, [], _∷_}
+use Prim.Native.Nat.{ℕ, zero, suc, _+_, _*_, _≤_, _<_}
+use native.Mathlib.Omega.{arith}
+use lib.ListN.{length, drop}
+use borrow.Author.Tests.{not-false, not-true}
+use Rattle.lists.specs.Words.{put, overlay, cleared}
+use Rattle.lists.proofs.Tests.{neither}
+use Rattle.lists.proofs.Words.{length-put, length-cleared, put-past, cleared-past, length-overlay, overlay-past}
+use Rattle.graphs.specs.Events.{Event, event, label, words}
+use Rattle.graphs.specs.Image.{Image}
+use Rattle.graphs.specs.Refusals.{Refusal, refuse, firstOf, Lent, lent, short, verticesOut, edgesOut, vertexOut}
+use Rattle.graphs.proofs.Refusals.{passes, long}
+use Rattle.graphs.proofs.Sound.{profile-sound}
+use Rattle.graphs.proofs.Room.{words-length}
+use Rattle.folding.specs.Machine.{Config, rollingBack, canStep, step}
+use Rattle.folding.specs.Calls.{Reason, stuck, Answer, ran, taken, refused, Reply, refusing, unless, over, fieldsIn, stateNumber, workAreas, runNumber, stepNumber, inPhase, run, Call, runFor, single, rollBack, areaOf, numberOf, perform, serve, unopened, openNumber, openedAt, openReply, opening}
+use Rattle.folding.specs.Lines.{folded}
+use Rattle.folding.specs.Claims.{Judged, Confined, Demand1, StepClaim, Tested, RunClaim}
+use Rattle.folding.proofs.Fields.{Fields, fields-are}
+use Rattle.folding.proofs.Confined.{Within, within-refl, Kept, step-kept, RunKept, run-kept}
+use Rattle.folding.proofs.Runs.{run-stops}
+
+-- ---- refused, or not
+not-refused : {A : Type 0} (why : Reason) (k : ℕ) → ran why ≡ refused k → A
+not-refused why k e = absurd (let z : _≡_ {A = ℕ} 0 1 = cc in omega arith)
+
+taken-not : {A : Type 0} (k : ℕ) → taken ≡ refused k → A
+taken-not k e = absurd (let z : _≡_ {A = ℕ} 0 1 = cc in omega arith)
+
+judged : (k : ℕ) (w : Config) (area : List ℕ) (r : Reply) → ((j : ℕ) → r .answer ≢ refused j) → Judged k w area (unless k w area r)
+judged zero w area r h = h
+judged (suc k) w area r h = refl
+
+performed : (w : Config) (c : Call) (k : ℕ) → perform w c .answer ≢ refused k
+performed w (runFor j area) k e = not-refused (run j w .reason) k e
+performed w (single area) k e = taken-not k e
+performed w rollBack k e = taken-not k e
+
+-- ---- confined
+-- A reply whose configuration is within, and whose events fit the area.
+confined : (w : Config) (area : List ℕ) (a : Answer) (made : ℕ) (es : List Event) (x : Config) → Within w x → length (words es) ≤ length area → Confined w area (record { answer = a; steps = made; events = es; config = x; area = overlay (words es) area })
+confined w area a made es x W h = record {
+  same-n = W .same-n;
+  same-m = W .same-m;
+  same-start = W .same-start;
+  after-length = W .after-length;
+  tail-length = W .tail-length;
+  marks-length = W .marks-length;
+  after-past = W .after-past;
+  tail-past = W .tail-past;
+  marks-past = W .marks-past;
+  area-length = length-overlay (words es) area h;
+  area-past = overlay-past (words es) area;
+}
+
+-- Nothing changed.
+still : (w : Config) (area : List ℕ) (k : ℕ) → Confined w area (refusing k w area)
+still w area k = confined w area (refused k) 0 [] w (within-refl w) (omega arith)
+
+-- What a call that is not refused has passed: its areas are long, its fields in kind, and its own conditions are false.
+record Passed (w : Config) (areas : List Lent) (own : List Refusal) : Type 0 where
+  areas-long : short areas ≡ false
+  fields : Fields w
+  own-false : firstOf own ≡ 0
+
+passed : (w : Config) (areas : List Lent) (own : List Refusal) → stateNumber w areas own ≡ 0 → Passed w areas own
+passed w areas own h =
+    let a = passes 1 (verticesOut (w .n)) (refuse 2 (edgesOut (w .m)) ∷ refuse 3 (short areas) ∷ refuse 4 (vertexOut (w .n) (w .start)) ∷ refuse 8 (not (fieldsIn w)) ∷ own) (omega arith) h in
+    let b = passes 2 (edgesOut (w .m)) (refuse 3 (short areas) ∷ refuse 4 (vertexOut (w .n) (w .start)) ∷ refuse 8 (not (fieldsIn w)) ∷ own) (omega arith) (a .1) in
+    let c = passes 3 (short areas) (refuse 4 (vertexOut (w .n) (w .start)) ∷ refuse 8 (not (fieldsIn w)) ∷ own) (omega arith) (b .1) in
+    let d = passes 4 (vertexOut (w .n) (w .start)) (refuse 8 (not (fieldsIn w)) ∷ own) (omega arith) (c .1) in
+    let e = passes 8 (not (fieldsIn w)) own (omega arith) (d .1) in
+    record { areas-long = c .0; fields = fields-are w (not-false (fieldsIn w) (e .0)); own-false = e .1 }
+
+-- The mark area and the event area are long enough.
+record Lengths (w : Config) (k : ℕ) (area : List ℕ) : Type 0 where
+  marks-long : w .n + w .m ≤ length (w .marks)
+  area-long : k ≤ length area
+
+lengths : (w : Config) (k : ℕ) (area : List ℕ) → short (workAreas w k area) ≡ false → Lengths w k area
+lengths w k area h =
+    let a = long (w .n + w .m) (w .after) (lent (w .m) (w .tail) ∷ lent (w .n + w .m) (w .marks) ∷ lent k area ∷ []) h in
+    let b = long (w .m) (w .tail) (lent (w .n + w .m) (w .marks) ∷ lent k area ∷ []) (a .1) in
+    let c = long (w .n + w .m) (w .marks) (lent k area ∷ []) (b .1) in
+    record { marks-long = c .0; area-long = long k area [] (c .1) .0 }
+
+run-confined : (w : Config) (k : ℕ) (area : List ℕ) → runNumber w k area ≡ 0 → Confined w area (perform w (runFor k area))
+run-confined w k area h =
+    let P = passed w (workAreas w (6 * k) area) [] h in
+    let Z = lengths w (6 * k) area (P .areas-long) in
+    let R : RunKept w (run k w) = run-kept k w (P .fields) (omega (arith, Z .marks-long)) in
+    confined w area (ran (run k w .reason)) (run k w .steps) (run k w .events) (run k w .config) (R .within) (omega (arith, words-length (run k w .events), R .few, run-stops k w .budget, Z .area-long))
+
+-- A step that is not refused fits: there is one to come, and its words are in kind.
+fits-of : (w : Config) → firstOf (refuse 8 (not (over w) && not (canStep w)) ∷ refuse 9 (over w) ∷ []) ≡ 0 → canStep w ≡ true
+fits-of w h =
+    let a = passes 8 (not (over w) && not (canStep w)) (refuse 9 (over w) ∷ []) (omega arith) h in
+    let b = passes 9 (over w) [] (omega arith) (a .1) in
+    not-false (canStep w) (sym (ap (λ (x : Bool). not x && not (canStep w)) (b .0)) ∙ a .0)
+
+single-confined : (w : Config) (area : List ℕ) → stepNumber w area ≡ 0 → Confined w area (perform w (single area))
+single-confined w area h =
+    let P = passed w (workAreas w 6 area) (refuse 8 (not (over w) && not (canStep w)) ∷ refuse 9 (over w) ∷ []) h in
+    let Z = lengths w 6 area (P .areas-long) in
+    let K : Kept w (step w) = step-kept w (P .fields) (omega (arith, Z .marks-long)) (fits-of w (P .own-false)) in
+    confined w area taken 1 (step w .events) (step w .config) (K .within) (omega (arith, words-length (step w .events), K .few, Z .area-long))
+
+perform-confined : (w : Config) (c : Call) → numberOf w c ≡ 0 → Confined w (areaOf c) (perform w c)
+perform-confined w (runFor k area) h = run-confined w k area h
+perform-confined w (single area) h = single-confined w area h
+perform-confined w rollBack h = confined w [] taken 0 [] (inPhase rollingBack w) (record { same-n = refl; same-m = refl; same-start = refl; after-length = refl; tail-length = refl; marks-length = refl; after-past = refl; tail-past = refl; marks-past = refl }) (omega arith)
+
+unless-confined : (k : ℕ) (w : Config) (area : List ℕ) (r : Reply) → (k ≡ 0 → Confined w area r) → Confined w area (unless k w area r)
+unless-confined zero w area r h = h refl
+unless-confined (suc k) w area r h = still w area (suc k)
+
+open-confined : (g : Image) (start : ℕ) (marks area : List ℕ) → openNumber g start marks area ≡ 0 → Confined (unopened g start marks) area (openReply g start marks area)
+open-confined g start marks area h =
+    let P = profile-sound g start (lent (g .n + g .m) marks ∷ lent 3 area ∷ []) h in
+    let a = long (g .n + g .m) marks (lent 3 area ∷ []) (P .areas-long) in
+    let b = long 3 area [] (a .1) in
+    let s = P .start-vertex in
+    let z : g .n + g .m + 0 ≡ g .n + g .m = omega arith in
+    confined (unopened g start marks) area taken 0 (event label 0 start ∷ []) (openedAt g start marks)
+    (record {
+      same-n = refl;
+      same-m = refl;
+      same-start = refl;
+      after-length = refl;
+      tail-length = refl;
+      marks-length = length-put 0 (cleared (g .n + g .m) marks) start 1 ∙ length-cleared (g .n + g .m) marks (a .0);
+      after-past = refl;
+      tail-past = refl;
+      marks-past = put-past 0 (g .n + g .m) (cleared (g .n + g .m) marks) start 1 (s .0) (omega arith) ∙ subst (λ (k : ℕ). drop k (cleared (g .n + g .m) marks) ≡ drop k marks) z (cleared-past (g .n + g .m) 0 marks);
+    })
+    (b .0)
+
+-- ---- the claims
+pub demand1 : Demand1 folded
+unfolding opening serve
+demand1 = record {
+  opening = λ g start marks area. judged (openNumber g start marks area) (unopened g start marks) area (openReply g start marks area) (λ k e. taken-not k e);
+  call = λ w c. judged (numberOf w c) w (areaOf c) (perform w c) (performed w c);
+  opening-confined = λ g start marks area. unless-confined (openNumber g start marks area) (unopened g start marks) area (openReply g start marks area) (open-confined g start marks area);
+  call-confined = λ w c. unless-confined (numberOf w c) w (areaOf c) (perform w c) (perform-confined w c);
+}
+
+pub single-steps : StepClaim folded
+unfolding serve
+single-steps w area h = ap (λ (k : ℕ). unless k w area (perform w (single area))) h
+
+reason-of : {x y : Reason} → ran x ≡ ran y → x ≡ y
+reason-of e = cc
+
+run-tested : (w : Config) (k : ℕ) (area : List ℕ) → Tested k (perform w (runFor k area))
+run-tested w k area = let S = run-stops k w in record { reason = ap ran (S .reason); budget = S .budget; jammed = λ e. S .jammed (reason-of e) }
+
+pub run-tests : RunClaim folded
+unfolding serve
+run-tests w k area h = subst (λ (x : ℕ). Tested k (unless x w area (perform w (runFor k area)))) (sym h) (run-tested w k area)
