@@ -20,9 +20,9 @@ use Rattle.graphs.proofs.Room.{words-length}
 use Rattle.folding.specs.Machine.{Config, rollingBack, canStep, step}
 use Rattle.folding.specs.Calls.{Reason, stuck, Answer, ran, taken, refused, Reply, refusing, unless, over, fieldsIn, stateNumber, workAreas, runNumber, stepNumber, inPhase, run, Call, runFor, single, rollBack, areaOf, numberOf, perform, serve, unopened, openNumber, openedAt, openReply, opening}
 use Rattle.folding.specs.Lines.{folded}
-use Rattle.folding.specs.Claims.{Judged, Confined, Demand1, StepClaim, Tested, RunClaim}
+use Rattle.folding.specs.Claims.{Judged, Within, Confined, Demand1, StepClaim, Tested, RunClaim}
 use Rattle.folding.proofs.Fields.{Fields, fields-are}
-use Rattle.folding.proofs.Confined.{Within, within-refl, Kept, step-kept, RunKept, run-kept}
+use Rattle.folding.proofs.Confined.{within-refl, Kept, step-kept, RunKept, run-kept}
 use Rattle.folding.proofs.Runs.{run-stops}
 
 -- ---- refused, or not
@@ -44,19 +44,7 @@ performed w rollBack k e = taken-not k e
 -- ---- confined
 -- A reply whose configuration is within, and whose events fit the area.
 confined : (w : Config) (area : List ℕ) (a : Answer) (made : ℕ) (es : List Event) (x : Config) → Within w x → length (words es) ≤ length area → Confined w area (record { answer = a; steps = made; events = es; config = x; area = overlay (words es) area })
-confined w area a made es x W h = record {
-  same-n = W .same-n;
-  same-m = W .same-m;
-  same-start = W .same-start;
-  after-length = W .after-length;
-  tail-length = W .tail-length;
-  marks-length = W .marks-length;
-  after-past = W .after-past;
-  tail-past = W .tail-past;
-  marks-past = W .marks-past;
-  area-length = length-overlay (words es) area h;
-  area-past = overlay-past (words es) area;
-}
+confined w area a made es x W h = record { links = W; area-length = length-overlay (words es) area h; area-past = overlay-past (words es) area }
 
 -- Nothing changed.
 still : (w : Config) (area : List ℕ) (k : ℕ) → Confined w area (refusing k w area)

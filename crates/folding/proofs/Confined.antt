@@ -16,19 +16,8 @@ use Rattle.graphs.specs.Nodes.{Vertex, Edge, isVertex, isEdge, isLink, isNode}
 use Rattle.graphs.proofs.Nodes.{vertex-is, edge-is, link-of-edge, link-not-null, link-node}
 use Rattle.folding.specs.Machine.{Config, walking, restoring, finished, rollingBack, rolledBack, target, Step, tree, nontree, relink, retreat, finish, undo-tree, undo-open, pickStep, stepOf, closed, upward, fits, Stepped, relinked, enact, canStep, step}
 use Rattle.folding.specs.Calls.{over, Run, stop, onward, proceed, run}
-use Rattle.folding.proofs.Fields.{Fields}
-
--- The same n, m and start; areas of the same lengths; the same words past the stated lengths.
-pub record Within (w x : Config) : Type 0 where
-  pub same-n : x .n ≡ w .n
-  pub same-m : x .m ≡ w .m
-  pub same-start : x .start ≡ w .start
-  pub after-length : length (x .after) ≡ length (w .after)
-  pub tail-length : length (x .tail) ≡ length (w .tail)
-  pub marks-length : length (x .marks) ≡ length (w .marks)
-  pub after-past : drop (w .n + w .m) (x .after) ≡ drop (w .n + w .m) (w .after)
-  pub tail-past : drop (w .m) (x .tail) ≡ drop (w .m) (w .tail)
-  pub marks-past : drop (w .n + w .m) (x .marks) ≡ drop (w .n + w .m) (w .marks)
+use Rattle.folding.specs.Claims.{Within, KeepClaim}
+use Rattle.folding.proofs.Fields.{Fields, fields-yes, fields-are}
 
 pub within-refl : (w : Config) → Within w w
 within-refl w = record { same-n = refl; same-m = refl; same-start = refl; after-length = refl; tail-length = refl; marks-length = refl; after-past = refl; tail-past = refl; marks-past = refl }
@@ -166,6 +155,9 @@ module _ (w : Config) (K : Fields w) (L : w .n ≤ length (w .marks)) where
   pub step-kept : canStep w ≡ true → Kept w (step w)
   unfolding stepOf
   step-kept = kept-at (eqb (w .phase) walking && not (eqb (w .e) 0)) (eqb (at 0 (w .marks) (target w (w .e))) 0) (ltb (w .n) (w .f)) (eqb (w .f) 0) (eqb (w .phase) rollingBack) forward refl refl
+
+pub keeps : KeepClaim
+keeps w h L c = let K : Kept w (step w) = step-kept w (fields-are w h) L c in (fields-yes (step w .config) (K .fields), K .within)
 
 -- ---- a run
 pub record RunKept (w : Config) (r : Run) : Type 0 where

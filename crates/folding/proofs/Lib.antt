@@ -9,3 +9,4 @@ pub mod Calls
 pub mod Agreement
 pub mod Confined
 pub mod AnyInput
+pub mod Cards

@@ -14,7 +14,7 @@ use Rattle.graphs.proofs.Sound.{Sound}
 use Rattle.folding.specs.Machine.{Config, Stepped, canStep, step}
 use Rattle.folding.specs.Calls.{Reason, ended, spent, stuck, over, Run, stop, onward, proceed, run}
 use Rattle.folding.specs.Lines.{addIf}
-use Rattle.folding.specs.Claims.{stopReason}
+use Rattle.folding.specs.Claims.{stopReason, joined, ComposeClaim}
 use Rattle.folding.proofs.Invariant.{Trace, tick, Holds, Moves, move}
 
 -- ---- why a run stops
@@ -38,10 +38,6 @@ run-stops (suc k) w = go (over w) (canStep w) refl refl (run-stops k (step w .co
     go false true e f ih = record { reason = ih .reason ∙ ap (λ (b : Bool). cond (over (run k (step w .config) .config)) ended (cond b spent stuck)) (sym (eqb·suc-suc (run k (step w .config) .steps) k)); budget = omega (arith, ih .budget); jammed = ih .jammed }
 
 -- ---- runs compose
--- The runs r and then s, as one.
-abbrev pub joined : Run → Run → Run
-joined r s = record { reason = s .reason; steps = r .steps + s .steps; events = r .events ++ s .events; config = s .config }
-
 join-none : (w : Config) (why : Reason) (s : Run) → joined (stop why w) s ≡ s
 join-none w why s = let z : 0 + s .steps ≡ s .steps = omega arith in λ i. record { reason = s .reason; steps = z i; events = s .events; config = s .config }
 
@@ -53,8 +49,7 @@ run-at : (k : ℕ) (w : Config) {x y : Bool} → over w ≡ x → canStep w ≡ 
 unfolding run
 run-at k w e f = λ i. proceed (run k) (e i) (f i) w
 
--- A run of a steps and then one of b + 1 are a run of a + (b + 1). (One of 0 steps says spent even where the first was stuck.)
-pub run-compose : (a b : ℕ) (w : Config) → joined (run a w) (run (suc b) (run a w .config)) ≡ run (a + suc b) w
+pub run-compose : ComposeClaim
 unfolding run
 run-compose zero b w = let z : suc b ≡ 0 + suc b = omega arith in join-none w (cond (over w) ended spent) (run (suc b) w) ∙ ap (λ (k : ℕ). run k w) z
 run-compose (suc a) b w = go (over w) (canStep w) refl refl (run-compose a b (step w .config)) ∙ ap (λ (k : ℕ). run k w) more

@@ -1,1 +1,84 @@
--- The cards P1 to P9.
+-- The cards P1 to P9 (document 01, "Cards for the proof table"), as rows of one table.
+use mathlib.Core.Path.{_≡_}
+use mathlib.Core.List.{List, [], _∷_, reverse}
+use Prim.Native.Nat.{ℕ, _+_, _*_}
+use lib.ListN.{length, replicate}
+use Rattle.graphs.specs.Events.{words, scanned}
+use Rattle.graphs.specs.Search.{breadthFirst}
+use Rattle.graphs.specs.Image.{Image, graphOf}
+use Rattle.graphs.specs.Refusals.{imageNumber}
+use Rattle.folding.specs.Calls.{Call, runFor, rollBack}
+use Rattle.folding.specs.Lines.{Line, lineA, lineB, folded}
+
+-- What a card asks.
+pub data Question : Type 0 where
+  recursive-events folded-events steps marks number scan-order event-count : Question
+  tails-after roll-back-after : ℕ → Question
+
+-- Our line B, on marks that were not clear.
+abbrev line : Image → ℕ → List Call → Line
+line g start cs = lineB folded g start (replicate (g .n + g .m) 9) (replicate 3 0) cs
+
+abbrev runOf : ℕ → Call
+runOf k = runFor k (replicate (6 * k) 0)
+
+-- A run of 2 m + n steps is long enough.
+abbrev whole : Image → Call
+whole g = runOf (2 * g .m + g .n)
+
+abbrev pub answerTo : Image → ℕ → Question → List ℕ
+answerTo g start recursive-events = words (lineA g start)
+answerTo g start folded-events = words (line g start (whole g ∷ []) .events)
+answerTo g start steps = line g start (whole g ∷ []) .steps ∷ []
+answerTo g start marks = line g start (whole g ∷ []) .config .marks
+answerTo g start number = imageNumber g [] ∷ []
+answerTo g start scan-order = reverse (scanned (breadthFirst (graphOf g) [] start))
+answerTo g start event-count = length (breadthFirst (graphOf g) [] start) ∷ []
+answerTo g start (tails-after k) = line g start (runOf k ∷ []) .config .tail
+answerTo g start (roll-back-after k) = line g start (runOf k ∷ rollBack ∷ whole g ∷ []) .since ∷ []
+
+-- A card: an image, a start, a question, its answer.
+pub data Card : Type 0 where
+  card : Image → ℕ → Question → List ℕ → Card
+
+-- The printed profile, one element, one element with a loop, the profile of P8, the example of number 7 with tail 1.
+abbrev printed : Image
+printed = record { n = 3; m = 4; after = 4 ∷ 6 ∷ 7 ∷ 5 ∷ 0 ∷ 0 ∷ 0 ∷ []; tail = 2 ∷ 3 ∷ 3 ∷ 1 ∷ [] }
+
+abbrev pub lone : Image
+lone = record { n = 1; m = 0; after = 0 ∷ []; tail = [] }
+
+abbrev pub loop : Image
+loop = record { n = 1; m = 1; after = 2 ∷ 0 ∷ []; tail = 1 ∷ [] }
+
+abbrev apart : Image
+apart = record { n = 2; m = 1; after = 3 ∷ 0 ∷ 0 ∷ []; tail = 1 ∷ [] }
+
+abbrev shared : Image
+shared = record { n = 2; m = 1; after = 3 ∷ 3 ∷ 0 ∷ []; tail = 1 ∷ [] }
+
+-- The printed events, three words each.
+abbrev events : List ℕ
+events = 1 ∷ 0 ∷ 1 ∷ 2 ∷ 4 ∷ 1 ∷ 1 ∷ 0 ∷ 2 ∷ 2 ∷ 6 ∷ 2 ∷ 1 ∷ 0 ∷ 3 ∷ 3 ∷ 7 ∷ 3 ∷ 4 ∷ 7 ∷ 3 ∷ 6 ∷ 0 ∷ 3 ∷ 5 ∷ 6 ∷ 2 ∷ 6 ∷ 0 ∷ 2 ∷ 5 ∷ 4 ∷ 1 ∷ 3 ∷ 5 ∷ 1 ∷ 4 ∷ 5 ∷ 1 ∷ 6 ∷ 0 ∷ 1 ∷ []
+
+-- The table: P1 twice, for either line; P2; P3; P4; P5 in two rows; P6 in two rows; P7; P8; P9.
+abbrev pub cards : List Card
+cards =
+    card printed 1 recursive-events events
+    ∷ card printed 1 folded-events events
+    ∷ card printed 1 steps (11 ∷ [])
+    ∷ card printed 1 (tails-after 2) (0 ∷ 3 ∷ 1 ∷ 1 ∷ [])
+    ∷ card printed 1 (roll-back-after 3) (4 ∷ [])
+    ∷ card printed 1 scan-order (1 ∷ 2 ∷ 3 ∷ [])
+    ∷ card printed 1 event-count (10 ∷ [])
+    ∷ card lone 1 folded-events (1 ∷ 0 ∷ 1 ∷ 6 ∷ 0 ∷ 1 ∷ [])
+    ∷ card lone 1 steps (1 ∷ [])
+    ∷ card loop 1 steps (3 ∷ [])
+    ∷ card apart 1 marks (1 ∷ 0 ∷ 0 ∷ [])
+    ∷ card shared 1 number (7 ∷ [])
+    ∷ []
+
+-- Every card has its answer.
+abbrev pub Answered : List Card → Type 0
+Answered [] = Unit {0}
+Answered (card g start q a ∷ cs) = (answerTo g start q ≡ a) × Answered cs

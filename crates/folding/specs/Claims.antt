@@ -3,7 +3,7 @@
 use mathlib.Core.Path.{_≡_}
 use mathlib.Core.Logic.{_↔_, _≢_, _⊎_}
 use mathlib.Core.Bool.{Bool, true, false, cond}
-use mathlib.Core.List.{List, [], _∷_, reverse, IsPrefix}
+use mathlib.Core.List.{List, [], _∷_, _++_, reverse, IsPrefix}
 use Prim.Native.Nat.{ℕ, zero, suc, _+_, _*_, _≤_, _<_}
 use lib.ListN.{length, drop}
 use lib.Dec.{eqb}
@@ -13,8 +13,8 @@ use Rattle.graphs.specs.Events.{History, Event, advance-nontree, count, words}
 use Rattle.graphs.specs.Depth.{DepthFirst}
 use Rattle.graphs.specs.Results.{marksLeft}
 use Rattle.graphs.specs.Image.{Image, graphOf}
-use Rattle.folding.specs.Machine.{Config, finished, rolledBack, canStep}
-use Rattle.folding.specs.Calls.{Reason, ended, spent, stuck, Answer, ran, taken, refused, Reply, refusing, over, Call, runFor, single, areaOf, numberOf, perform, runNumber, stepNumber, openNumber, unopened}
+use Rattle.folding.specs.Machine.{Config, finished, rolledBack, canStep, step}
+use Rattle.folding.specs.Calls.{Reason, ended, spent, stuck, Answer, ran, taken, refused, Reply, refusing, over, fieldsIn, Run, run, Call, runFor, single, areaOf, numberOf, perform, runNumber, stepNumber, openNumber, unopened}
 use Rattle.folding.specs.Lines.{Walker, Line, lineA, lineB}
 
 -- ---- demand 1: the table's conditions
@@ -23,18 +23,21 @@ abbrev pub Judged : ℕ → Config → List ℕ → Reply → Type 0
 Judged zero w area r = (k : ℕ) → r .answer ≢ refused k
 Judged (suc k) w area r = r ≡ refusing (suc k) w area
 
--- A call leaves n, m and start, the lengths of all areas, and every word past the stated lengths; of the event area only the words of
--- its events change.
+-- The same n, m and start; areas of the same lengths; the same words past the stated lengths.
+pub record Within (w x : Config) : Type 0 where
+  pub same-n : x .n ≡ w .n
+  pub same-m : x .m ≡ w .m
+  pub same-start : x .start ≡ w .start
+  pub after-length : length (x .after) ≡ length (w .after)
+  pub tail-length : length (x .tail) ≡ length (w .tail)
+  pub marks-length : length (x .marks) ≡ length (w .marks)
+  pub after-past : drop (w .n + w .m) (x .after) ≡ drop (w .n + w .m) (w .after)
+  pub tail-past : drop (w .m) (x .tail) ≡ drop (w .m) (w .tail)
+  pub marks-past : drop (w .n + w .m) (x .marks) ≡ drop (w .n + w .m) (w .marks)
+
+-- A call touches only its areas: of the links and marks the stated words, of the event area the words of its events.
 pub record Confined (w : Config) (area : List ℕ) (r : Reply) : Type 0 where
-  pub same-n : r .config .n ≡ w .n
-  pub same-m : r .config .m ≡ w .m
-  pub same-start : r .config .start ≡ w .start
-  pub after-length : length (r .config .after) ≡ length (w .after)
-  pub tail-length : length (r .config .tail) ≡ length (w .tail)
-  pub marks-length : length (r .config .marks) ≡ length (w .marks)
-  pub after-past : drop (w .n + w .m) (r .config .after) ≡ drop (w .n + w .m) (w .after)
-  pub tail-past : drop (w .m) (r .config .tail) ≡ drop (w .m) (w .tail)
-  pub marks-past : drop (w .n + w .m) (r .config .marks) ≡ drop (w .n + w .m) (w .marks)
+  pub links : Within w (r .config)
   pub area-length : length (r .area) ≡ length area
   pub area-past : drop (length (words (r .events))) (r .area) ≡ drop (length (words (r .events))) area
 
@@ -49,6 +52,10 @@ pub record Demand1 (W : Walker) : Type 0 where
 abbrev pub StepClaim : Walker → Type 0
 StepClaim W = (w : Config) (area : List ℕ) → stepNumber w area ≡ 0 → W .serves w (single area) ≡ perform w (single area)
 
+-- On any words, a step that fits keeps the state fields in kind and stays within its areas.
+abbrev pub KeepClaim : Type 0
+KeepClaim = (w : Config) → fieldsIn w ≡ true → w .n ≤ length (w .marks) → canStep w ≡ true → (fieldsIn (step w .config) ≡ true) × Within w (step w .config)
+
 -- ---- the run's tests
 -- Why a run with a budget of k stops, after so many steps, here: by its tests, in their order.
 abbrev pub stopReason : ℕ → ℕ → Config → Reason
@@ -61,6 +68,14 @@ pub record Tested (k : ℕ) (r : Reply) : Type 0 where
 
 abbrev pub RunClaim : Walker → Type 0
 RunClaim W = (w : Config) (k : ℕ) (area : List ℕ) → runNumber w k area ≡ 0 → Tested k (W .serves w (runFor k area))
+
+-- The runs r and then s, as one.
+abbrev pub joined : Run → Run → Run
+joined r s = record { reason = s .reason; steps = r .steps + s .steps; events = r .events ++ s .events; config = s .config }
+
+-- A run of a steps and then one of b + 1 are a run of a + (b + 1). (One of 0 steps says spent even where the first was stuck.)
+abbrev pub ComposeClaim : Type 0
+ComposeClaim = (a b : ℕ) (w : Config) → joined (run a w) (run (suc b) (run a w .config)) ≡ run (a + suc b) w
 
 -- ---- demand 2: events and labels
 -- Circular: 1 where at least one nontree reference was met, else 0.
