@@ -10,3 +10,4 @@ pub mod Agreement
 pub mod Confined
 pub mod AnyInput
 pub mod Cards
+pub mod Wrong
