@@ -68,17 +68,19 @@ stateNumber w areas own =
 abbrev pub workAreas : Config → ℕ → List ℕ → List Lent
 workAreas w k area = lent (w .n + w .m) (w .after) ∷ lent (w .m) (w .tail) ∷ lent (w .n + w .m) (w .marks) ∷ lent k area ∷ []
 
+-- The number of a run: 1, 2, 3, 4, 8 by its fields.
 abbrev pub runNumber : Config → ℕ → List ℕ → ℕ
 runNumber w k area = stateNumber w (workAreas w (6 * k) area) []
 
--- A single step also where a word that it reads is out of kind (8), or there is none to come (9).
+-- The number of a single step: also 8 where a word that it reads is out of kind, and 9 where there is none to come.
 abbrev pub stepNumber : Config → List ℕ → ℕ
 stepNumber w area = stateNumber w (workAreas w 6 area) (refuse 8 (not (over w) && not (canStep w)) ∷ refuse 9 (over w) ∷ [])
 
+-- The number of a roll-back order (winding order): it is lent no areas; 9 where there is no step to come.
 abbrev pub rollBackNumber : Config → ℕ
 rollBackNumber w = stateNumber w [] (refuse 9 (over w) ∷ [])
 
--- Accepting a state, with the panel's figure: 9 in phase 5 or 6, 10 in phase 1, 2 or 4, then 11.
+-- The number of accepting a state, with the panel's figure: 9 in phase 5 or 6, 10 in phase 1, 2 or 4, then 11.
 abbrev pub acceptNumber : Config → ℕ → ℕ
 acceptNumber w figure =
     stateNumber w []
@@ -99,6 +101,7 @@ pub record Run : Type 0 where
   pub events : List Event
   pub config : Config
 
+-- A run that makes no step.
 abbrev pub stop : Reason → Config → Run
 stop why w = record { reason = why; steps = 0; events = []; config = w }
 
@@ -112,7 +115,7 @@ proceed rec true fit w = stop ended w
 proceed rec false false w = stop stuck w
 proceed rec false true w = onward (step w .events) (rec (step w .config))
 
--- A run with a budget of k steps.
+-- A run with a budget (allowance) of k steps: ended, spent and stuck are tested in this order before each step.
 unfoldable pub run : ℕ → Config → Run
 run zero w = stop (cond (over w) ended spent) w
 run (suc k) w = proceed (run k) (over w) (canStep w) w
@@ -124,11 +127,13 @@ pub data Call : Type 0 where
   single : List ℕ → Call
   rollBack : Call
 
+-- The area that a call is lent for events.
 abbrev pub areaOf : Call → List ℕ
 areaOf (runFor k area) = area
 areaOf (single area) = area
 areaOf rollBack = []
 
+-- The number of a call; 0 where it is taken.
 abbrev pub numberOf : Config → Call → ℕ
 numberOf w (runFor k area) = runNumber w k area
 numberOf w (single area) = stepNumber w area
@@ -140,6 +145,7 @@ perform w (runFor k area) = record { answer = ran (run k w .reason); steps = run
 perform w (single area) = record { answer = taken; steps = 1; events = step w .events; config = step w .config; area = overlay (words (step w .events)) area }
 perform w rollBack = record { answer = taken; steps = 0; events = []; config = inPhase rollingBack w; area = [] }
 
+-- Any call, on any configuration.
 unfoldable pub serve : Config → Call → Reply
 serve w c = unless (numberOf w c) w (areaOf c) (perform w c)
 
@@ -148,15 +154,18 @@ serve w c = unless (numberOf w c) w (areaOf c) (perform w c)
 abbrev pub unopened : Image → ℕ → List ℕ → Config
 unopened g start marks = record { n = g .n; m = g .m; start = start; v = 0; e = 0; f = 0; phase = 0; next = 0; circular = 0; after = g .after; tail = g .tail; marks = marks }
 
+-- The number of an opening: it is lent marks and three words for its event.
 abbrev pub openNumber : Image → ℕ → List ℕ → List ℕ → ℕ
 openNumber g start marks area = searchNumber g start (lent (g .n + g .m) marks ∷ lent 3 area ∷ [])
 
--- The marks are cleared and the start is labelled.
+-- What an opening leaves: the marks are cleared and the start is labelled.
 abbrev pub openedAt : Image → ℕ → List ℕ → Config
 openedAt g start marks = record { n = g .n; m = g .m; start = start; v = start; e = at 0 (g .after) start; f = 0; phase = walking; next = 2; circular = 0; after = g .after; tail = g .tail; marks = put 0 (cleared (g .n + g .m) marks) start 1 }
 
+-- An opening that is not refused.
 abbrev pub openReply : Image → ℕ → List ℕ → List ℕ → Reply
 openReply g start marks area = record { answer = taken; steps = 0; events = event label 0 start ∷ []; config = openedAt g start marks; area = overlay (words (event label 0 start ∷ [])) area }
 
+-- Any opening.
 unfoldable pub opening : Image → ℕ → List ℕ → List ℕ → Reply
 opening g start marks area = unless (openNumber g start marks area) (unopened g start marks) area (openReply g start marks area)

@@ -41,6 +41,7 @@ pub record Confined (w : Config) (area : List ℕ) (r : Reply) : Type 0 where
   pub area-length : length (r .area) ≡ length area
   pub area-past : drop (length (words (r .events))) (r .area) ≡ drop (length (words (r .events))) area
 
+-- Demand 1: every call, on any input at all, is judged by its number and touches only its areas.
 pub record Demand1 (W : Walker) : Type 0 where
   pub opening : (g : Image) (start : ℕ) (marks area : List ℕ) → Judged (openNumber g start marks area) (unopened g start marks) area (W .opens g start marks area)
   pub call : (w : Config) (c : Call) → Judged (numberOf w c) w (areaOf c) (W .serves w c)
@@ -61,11 +62,13 @@ KeepClaim = (w : Config) → fieldsIn w ≡ true → w .n ≤ length (w .marks) 
 abbrev pub stopReason : ℕ → ℕ → Config → Reason
 stopReason k made w = cond (over w) ended (cond (eqb made k) spent stuck)
 
+-- Its reason is that of the tests; it makes at most k steps; it says stuck only where the step to come is out of kind.
 pub record Tested (k : ℕ) (r : Reply) : Type 0 where
   pub reason : r .answer ≡ ran (stopReason k (r .steps) (r .config))
   pub budget : r .steps ≤ k
   pub jammed : r .answer ≡ ran stuck → canStep (r .config) ≡ false
 
+-- Every run that is not refused.
 abbrev pub RunClaim : Walker → Type 0
 RunClaim W = (w : Config) (k : ℕ) (area : List ℕ) → runNumber w k area ≡ 0 → Tested k (W .serves w (runFor k area))
 
@@ -78,20 +81,23 @@ abbrev pub ComposeClaim : Type 0
 ComposeClaim = (a b : ℕ) (w : Config) → joined (run a w) (run (suc b) (run a w .config)) ≡ run (a + suc b) w
 
 -- ---- demand 2: events and labels
--- Circular: 1 where at least one nontree reference was met, else 0.
+-- 1 where there is at least one, else 0.
 abbrev pub flag : ℕ → ℕ
 flag zero = 0
 flag (suc k) = 1
 
+-- Circular, by the events.
 abbrev pub circularOf : History → ℕ
 circularOf h = flag (count advance-nontree h)
 
+-- Ended, the events and marks are those of the depth-first search; rolled back, all marks are 0; circular is 1 where a nontree reference was met.
 pub record Labelling (g : Image) (start : ℕ) (marks : List ℕ) (l : Line) : Type 0 where
   pub events : l .config .phase ≡ finished → DepthFirst (graphOf g) [] start (reverse (l .events))
   pub labels : l .config .phase ≡ finished → l .config .marks ≡ marksLeft (g .n + g .m) (reverse (l .events)) marks
   pub no-labels : l .config .phase ≡ rolledBack → l .config .marks ≡ cleared (g .n + g .m) marks
   pub circular : l .config .circular ≡ circularOf (reverse (l .events))
 
+-- Demand 2 of the folded search: under every list of calls, and a run of 2 m + n steps ends.
 pub record Demand2 (W : Walker) : Type 0 where
   pub labelling : (g : Image) (start : ℕ) (marks area : List ℕ) → openNumber g start marks area ≡ 0 → (cs : List Call) → Labelling g start marks (lineB W g start marks area cs)
   pub ending : (g : Image) (start : ℕ) (marks area : List ℕ) → openNumber g start marks area ≡ 0 → (k : ℕ) (room : List ℕ) → 2 * g .m + g .n ≤ k → 6 * k ≤ length room

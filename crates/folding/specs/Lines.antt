@@ -18,6 +18,7 @@ pub record Walker : Type 0 where
   pub opens : Image → ℕ → List ℕ → List ℕ → Reply
   pub serves : Config → Call → Reply
 
+-- Our folded search.
 abbrev pub folded : Walker
 folded = record { opens = opening; serves = serve }
 
@@ -44,9 +45,11 @@ abbrev pub addIf : Bool → ℕ → ℕ → ℕ
 addIf true a k = a + k
 addIf false a k = 0
 
+-- The line after a call and its reply: moves made add up what runs taken return, and 1 for each single step taken.
 abbrev pub noted : Line → Call → Reply → Line
 noted l c r = record { config = r .config; events = l .events ++ r .events; steps = l .steps + r .steps; rolling = l .rolling || orders c (r .answer); since = addIf (l .rolling) (l .since) (r .steps); answers = r .answer ∷ l .answers }
 
+-- A list of calls, each on what the one before it left.
 unfoldable pub calls : Walker → Line → List Call → Line
 calls W l [] = l
 calls W l (c ∷ cs) = calls W (noted l c (W .serves (l .config) c)) cs

@@ -23,26 +23,31 @@ pub record Config : Type 0 where
   pub tail : List ℕ
   pub marks : List ℕ
 
--- Phases. Document 01: walking, restoring, ended, winding back, withdrawn, accepted.
+-- The six phases, each with document 01's word. Walking.
 abbrev pub walking : ℕ
 walking = 1
 
+-- Document 01: restoring.
 abbrev pub restoring : ℕ
 restoring = 2
 
+-- Document 01: ended.
 abbrev pub finished : ℕ
 finished = 3
 
+-- Document 01: winding back.
 abbrev pub rollingBack : ℕ
 rollingBack = 4
 
+-- Document 01: withdrawn.
 abbrev pub rolledBack : ℕ
 rolledBack = 5
 
+-- Document 01: accepted.
 abbrev pub accepted : ℕ
 accepted = 6
 
--- t(r).
+-- The tail word t(r).
 abbrev pub target : Config → ℕ → ℕ
 target w r = at (w .n) (w .tail) r
 
@@ -61,6 +66,7 @@ pickStep false a false true true = undo-open
 pickStep false a false false false = retreat
 pickStep false a false false true = undo-tree
 
+-- The step to come (the move to come).
 unfoldable pub stepOf : Config → Step
 stepOf w =
     pickStep
@@ -93,11 +99,12 @@ pub record Stepped : Type 0 where
   pub config : Config
   pub events : List Event
 
--- A relink ends the walking; rolling back goes on.
+-- The phase after a relink: walking becomes restoring; rolling back goes on.
 abbrev pub relinked : Bool → ℕ
 relinked true = rollingBack
 relinked false = restoring
 
+-- What a step does: its stores in the paper's order, each reading what the earlier ones left.
 unfoldable pub enact : Config → Step → Stepped
 enact w tree = record {
   config = record { n = w .n; m = w .m; start = w .start; v = target w (w .e); e = at 0 (closed w) (target w (w .e)); f = w .v; phase = w .phase; next = suc (w .next); circular = w .circular; after = closed w; tail = put (w .n) (w .tail) (w .e) (w .f); marks = put 0 (w .marks) (target w (w .e)) (w .next) };
@@ -132,5 +139,6 @@ enact w undo-open = record {
 abbrev pub canStep : Config → Bool
 canStep w = fits w (stepOf w)
 
+-- The step to come, made.
 abbrev pub step : Config → Stepped
 step w = enact w (stepOf w)

@@ -222,9 +222,13 @@ module _ (G : Graph) (before : List ℕ) (start : ℕ) (R : Ready G before start
     reaches = λ r m. absurd (mem-nil m);
   }
 
+  -- With enough fuel.
+  ends : (k : ℕ) → G .size ≤ k → Drained G before start ([] ▸ event label 0 start) (drain (recorder before) G k (start ∷ []) ([] ▸ event label 0 start))
+  ends k h = drains G before start (R .closed) k (start ∷ []) ([] ▸ event label 0 start) first (omega arith)
+
   last : Drained G before start ([] ▸ event label 0 start) (breadthFirst G before start)
   unfolding breadthFirst
-  last = drains G before start (R .closed) (G .size) (start ∷ []) ([] ▸ event label 0 start) first (omega arith)
+  last = ends (G .size) (omega arith)
 
   counts : Counts G before (labelled (breadthFirst G before start)) [] (breadthFirst G before start)
   counts =
@@ -243,6 +247,7 @@ breadth-first G before start R =
         edges = λ r. omega (arith, c .edges r);
       };
       in-order = sym (l .keeps .order);
+      fuel = λ k h. one-scans (ends G before start R k h .follows) (l .follows);
       traverses = omega (arith, c .traverses);
     }
 

@@ -19,7 +19,7 @@ use Rattle.graphs.specs.Depth.{Searches, searches, Traverses, none, tree
 use Rattle.graphs.specs.Search.{recorder, cross, walkEdges, search, depthFirst}
 use Rattle.graphs.specs.Claims.{Ready, Complete, DepthClaim, DepthFirstClaim}
 use Rattle.graphs.proofs.Labels.{Labels, Done, reached-counts}
-use Rattle.graphs.proofs.DepthGrowth.{Can, CanWalk, can-walk, can-cross, no-fuel, Labelled, search-labels, next-walk}
+use Rattle.graphs.proofs.DepthGrowth.{Can, CanWalk, can-walk, can-cross, no-fuel, Labelled, search-labels, search-same, next-walk}
 use Rattle.graphs.proofs.DepthCounts.{Balance, depth-balance}
 
 -- ---- one outcome
@@ -135,6 +135,10 @@ module _ (G : Graph) (before : List ℕ) (start : ℕ) (R : Ready G before start
       let c : sumOf (λ y. bump (eqb r y) 0) (traversed (depthFirst G before start)) ≡ sumOf (λ u. sumOf (λ y. bump (eqb r y) 0) (G .out u)) (labelled (depthFirst G before start)) = omega (arith, b .edges) in
       count-sum r (traversed (depthFirst G before start)) ∙ c ∙ sum-same (λ u. sumOf (λ y. bump (eqb r y) 0) (G .out u)) (λ u. countIn r (G .out u)) (λ u. sym (count-sum r (G .out u))) (labelled (depthFirst G before start))
 
+  depth-fuel : (k : ℕ) → G .size ≤ k → search (recorder before) G k start [] ≡ depthFirst G before start
+  unfolding depthFirst
+  depth-fuel k h = search-same G before (R .closed) k (G .size) start [] (record { vertex = can .vertex; fresh = can .fresh; labels = can .labels; enough = omega arith }) can
+
   pub depth-claim : DepthClaim G before start
   depth-claim =
       let b = depth-balance G before (λ y. 0) (λ y. 0) start in
@@ -143,6 +147,7 @@ module _ (G : Graph) (before : List ℕ) (start : ℕ) (R : Ready G before start
         complete = record { labels = depth-reached; scans = depth-scanned; edges = depth-edges };
         advances = omega (arith, b .advances);
         tree-pairs = omega (arith, b .trees);
+        fuel = depth-fuel;
         nontree-pairs = omega (arith, b .nontrees);
       }
 

@@ -1,17 +1,17 @@
 -- What is claimed of the two searches (demand 2), as types; proofs/ has the theorems of these names.
 use mathlib.Core.Path.{_≡_}
 use mathlib.Core.Logic.{_↔_}
-use mathlib.Core.List.{List, [], reverse}
+use mathlib.Core.List.{List, [], _∷_, reverse}
 use Prim.Native.Nat.{ℕ, _+_, _*_, _≤_}
 use lib.ListN.{length}
 use Rattle.lists.specs.Members.{Mem, NoDup}
 use Rattle.lists.specs.Counts.{countIn, sumOf}
 use Rattle.graphs.specs.Nodes.{Vertex}
 use Rattle.graphs.specs.Graph.{Graph, Closed, Reached, met}
-use Rattle.graphs.specs.Events.{History, label, advance-tree, advance-nontree, retreat-tree, retreat-nontree, scan, traverse, labelled, scanned, traversed, count, tally, words}
+use Rattle.graphs.specs.Events.{History, _▸_, event, label, advance-tree, advance-nontree, retreat-tree, retreat-nontree, traverse, labelled, scanned, traversed, count, tally, words}
 use Rattle.graphs.specs.Depth.{DepthFirst}
 use Rattle.graphs.specs.Breadth.{BreadthFirst}
-use Rattle.graphs.specs.Search.{depthFirst, breadthFirst}
+use Rattle.graphs.specs.Search.{recorder, search, depthFirst, drain, breadthFirst}
 use Rattle.graphs.specs.Image.{Image, graphOf}
 use Rattle.graphs.specs.Refusals.{Lent, searchNumber}
 
@@ -30,24 +30,28 @@ pub record Complete (G : Graph) (before : List ℕ) (start : ℕ) (h : History) 
   pub scans : Reached G before start (scanned h)
   pub edges : (r : ℕ) → countIn r (traversed h) ≡ sumOf (λ u. countIn r (G .out u)) (labelled h)
 
--- Depth-first: there is one search, the executable one; it is complete, and each advance has its retreat.
+-- Depth-first: there is one search, the executable one, whatever its fuel, if that is enough; it is complete, and each advance has its retreat.
 pub record DepthClaim (G : Graph) (before : List ℕ) (start : ℕ) : Type 0 where
   pub one : (h : History) → DepthFirst G before start h ↔ (h ≡ depthFirst G before start)
   pub complete : Complete G before start (depthFirst G before start)
   pub advances : count advance-tree (depthFirst G before start) + count advance-nontree (depthFirst G before start) ≡ met G (labelled (depthFirst G before start))
   pub tree-pairs : count advance-tree (depthFirst G before start) ≡ count retreat-tree (depthFirst G before start)
+  pub fuel : (k : ℕ) → G .size ≤ k → search (recorder before) G k start [] ≡ depthFirst G before start
   pub nontree-pairs : count advance-nontree (depthFirst G before start) ≡ count retreat-nontree (depthFirst G before start)
 
--- Breadth-first: there is one search, the executable one; it is complete, and scans in the order of labelling.
+-- Breadth-first: there is one search, the executable one, whatever its fuel, if that is enough; it is complete, and scans in the order of labelling.
 pub record BreadthClaim (G : Graph) (before : List ℕ) (start : ℕ) : Type 0 where
   pub one : (h : History) → BreadthFirst G before start h ↔ (h ≡ breadthFirst G before start)
   pub complete : Complete G before start (breadthFirst G before start)
   pub in-order : scanned (breadthFirst G before start) ≡ labelled (breadthFirst G before start)
+  pub fuel : (k : ℕ) → G .size ≤ k → drain (recorder before) G k (start ∷ []) ([] ▸ event label 0 start) ≡ breadthFirst G before start
   pub traverses : count traverse (breadthFirst G before start) ≡ met G (labelled (breadthFirst G before start))
 
+-- Demand 2, depth-first: of every graph and start.
 abbrev pub DepthFirstClaim : Type 0
 DepthFirstClaim = (G : Graph) (before : List ℕ) (start : ℕ) → Ready G before start → DepthClaim G before start
 
+-- Demand 2, breadth-first.
 abbrev pub BreadthFirstClaim : Type 0
 BreadthFirstClaim = (G : Graph) (before : List ℕ) (start : ℕ) → Ready G before start → BreadthClaim G before start
 

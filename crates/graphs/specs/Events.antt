@@ -6,7 +6,7 @@ use lib.Dec.{eqb}
 use Rattle.lists.specs.Members.{consIf}
 use Rattle.lists.specs.Counts.{bump}
 
--- The seven kinds.
+-- The seven kinds of event.
 pub data Kind : Type 0 where
   label advance-tree advance-nontree retreat-nontree retreat-tree scan traverse : Kind
 
@@ -38,6 +38,7 @@ infixl 20 _▸_
 abbrev pub _▸_ : History → Event → History
 h ▸ x = x ∷ h
 
+-- The two kinds are one.
 abbrev pub same : Kind → Kind → Bool
 same j k = eqb (code j) (code k)
 
@@ -46,10 +47,11 @@ abbrev pub named : Kind → History → List ℕ
 named j [] = []
 named j (event k r u ∷ h) = consIf (same j k) u (named j h)
 
--- The elements labelled, and the elements scanned, the last of them first.
+-- The elements labelled, the last of them first.
 abbrev pub labelled : History → List ℕ
 labelled h = named label h
 
+-- The elements scanned, the last of them first.
 abbrev pub scanned : History → List ℕ
 scanned h = named scan h
 

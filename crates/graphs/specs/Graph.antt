@@ -8,7 +8,7 @@ use Rattle.lists.specs.Members.{Mem, NoDup}
 use Rattle.lists.specs.Counts.{sumOf}
 use Rattle.graphs.specs.Nodes.{Vertex}
 
--- Vertices 1 to `size`; the edges out of each, in order; the vertex that an edge leads to.
+-- Elements are vertices 1 to `size`; the references on each one's list are the edges out of it, in order, and lead to a vertex each.
 pub record Graph : Type 0 where
   pub size : ℕ
   pub out : ℕ → List ℕ

@@ -4,7 +4,7 @@ use Prim.Native.Nat.{ℕ, zero, suc}
 use Rattle.lists.specs.Words.{at}
 use Rattle.graphs.specs.Graph.{Graph}
 
--- The after area: for an element its first reference, for a reference the next one on the same list, 0 at the end.
+-- A linked image. The after area: for an element its first reference, for a reference the next one on the same list, 0 at the end.
 -- The tail area: the element that each reference leads to.
 pub record Image : Type 0 where
   pub n : ℕ
@@ -26,6 +26,7 @@ edgesOf g u = chain (suc (g .m)) (g .after) (at 0 (g .after) u)
 abbrev pub to : Image → ℕ → ℕ
 to g r = at (g .n) (g .tail) r
 
+-- An image as a graph.
 abbrev pub graphOf : Image → Graph
 graphOf g = record { size = g .n; out = edgesOf g; to = to g }
 

@@ -11,17 +11,18 @@ Vertex n x = (0 < x) × (x ≤ n)
 abbrev pub Edge : ℕ → ℕ → ℕ → Type 0
 Edge n m x = (n < x) × (x ≤ n + m)
 
--- The tests of these.
+-- The test of an element.
 abbrev pub isVertex : ℕ → ℕ → Bool
 isVertex n x = ltb 0 x && leb x n
 
+-- The test of a reference.
 abbrev pub isEdge : ℕ → ℕ → ℕ → Bool
 isEdge n m x = ltb n x && leb x (n + m)
 
--- Null or an edge.
+-- Null or a reference: what an after word may hold at rest.
 abbrev pub isLink : ℕ → ℕ → ℕ → Bool
 isLink n m x = eqb x 0 || isEdge n m x
 
--- Null, a vertex or an edge.
+-- Null, an element or a reference: what the trailer may hold.
 abbrev pub isNode : ℕ → ℕ → ℕ → Bool
 isNode n m x = leb x (n + m)

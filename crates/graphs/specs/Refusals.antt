@@ -40,10 +40,11 @@ short (lent stated area ∷ others) = ltb (length area) stated || short others
 abbrev pub vertexOut : ℕ → ℕ → Bool
 vertexOut n x = not (isVertex n x)
 
--- 5: an after word is neither 0 nor a reference; a first position breaks its rule.
+-- 5: an after word is neither 0 nor a reference.
 abbrev pub afterOut : Image → Bool
 afterOut g = not (allTo (λ x. isLink (g .n) (g .m) (at 0 (g .after) x)) (g .n + g .m))
 
+-- 5, for the array form: a first position breaks its rule.
 abbrev pub firstOut : ArrayForm → Bool
 firstOut a = not (inOrder a)
 
@@ -64,6 +65,7 @@ abbrev pub textOut : ℕ → Bool
 textOut bytes = ltb 65536 bytes
 
 -- ---- the order of each call
+-- The areas of an image: n + m after words and m tail words.
 abbrev pub imageAreas : Image → List Lent
 imageAreas g = lent (g .n + g .m) (g .after) ∷ lent (g .m) (g .tail) ∷ []
 

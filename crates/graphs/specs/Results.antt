@@ -34,6 +34,7 @@ entry G h x = lastTree (λ r u. eqb (G .to r) x) h
 abbrev pub parentWord : Graph → History → ℕ → ℕ
 parentWord G h x = entry G h (entry G h x .1) .0
 
+-- The parent area.
 abbrev pub parentLeft : Graph → History → List ℕ → List ℕ
 parentLeft G h area = filled (parentWord G h) (G .size) area
 
@@ -41,5 +42,6 @@ parentLeft G h area = filled (parentWord G h) (G .size) area
 abbrev pub incrementWord : Graph → History → ℕ → ℕ
 incrementWord G h x = cond (memb x (labelled h)) (max 1 (rank (lastTree (λ r u. eqb u x) h .0) (reverse (G .out x)))) 0
 
+-- The increment area.
 abbrev pub incrementLeft : Graph → History → List ℕ → List ℕ
 incrementLeft G h area = filled (incrementWord G h) (G .size) area
