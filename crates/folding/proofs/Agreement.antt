@@ -34,7 +34,8 @@ use Rattle.folding.specs.Claims.{circularOf, stopReason, Faultless, Labe
 use Rattle.folding.proofs.Bent.{Frame, configAt}
 use Rattle.folding.proofs.Future.{allOf, finishing, advances, scans, Short, short, prefix-of}
 use Rattle.folding.proofs.Invariant.{Trace, Scene, Closed, Holds, at-walking, at-restoring, at-rolling, at-end, at-undone, weight}
-use Rattle.folding.proofs.Runs.{Free, run-stops, advance, Ran, run-holds}
+use Rattle.folding.proofs.Runs.{run-stops}
+use Rattle.folding.proofs.Running.{Free, advance, Ran, run-holds}
 use Rattle.folding.proofs.Calls.{traceOf, Held, run-number, calls-held, opened-held}
 
 -- ---- line A's counts

@@ -35,7 +35,7 @@ use Rattle.folding.proofs.Steps.{link-rest, node-top}
 use Rattle.folding.proofs.Future.{allOf, finishing, Short, short, in-order}
 use Rattle.folding.proofs.Invariant.{Trace, tick, Scene, Closed, Holds, at-walking, at-restoring, at-rolling, at-end, at-undone, Moves, move}
 use Rattle.folding.proofs.Fields.{fields-yes}
-use Rattle.folding.proofs.Runs.{advance, Calm, calm-more, Free, Ran, run-holds}
+use Rattle.folding.proofs.Running.{Calm, calm-more, Free, Ran, run-holds}
 
 flag-bit : (k : ℕ) → flag k ≤ 1
 flag-bit zero = omega arith

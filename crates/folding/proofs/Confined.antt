@@ -14,7 +14,7 @@ use Rattle.lists.proofs.Tests.{and-true, both, clash}
 use Rattle.lists.proofs.Words.{length-put, length-cleared, put-past, cleared-past}
 use Rattle.graphs.specs.Nodes.{Vertex, Edge, isVertex, isEdge, isLink, isNode}
 use Rattle.graphs.proofs.Nodes.{vertex-is, edge-is, link-of-edge, link-not-null, link-node}
-use Rattle.folding.specs.Machine.{Config, walking, restoring, finished, rollingBack, rolledBack, target, Step, tree, nontree, relink, retreat, finish, undo-tree, undo-open, pickStep, stepOf, closed, upward, fits, Stepped, relinked, enact, canStep, step}
+use Rattle.folding.specs.Machine.{Config, walking, restoring, finished, rollingBack, rolledBack, target, forward, fresh, Step, tree, nontree, relink, retreat, finish, undo-tree, undo-open, pickStep, stepOf, closed, upward, fits, Stepped, relinked, enact, canStep, step}
 use Rattle.folding.specs.Calls.{over, Run, stop, onward, proceed, run}
 use Rattle.folding.specs.Claims.{Within, KeepClaim}
 use Rattle.folding.proofs.Fields.{Fields, fields-yes, fields-are}
@@ -149,12 +149,12 @@ module _ (w : Config) (K : Fields w) (L : w .n ≤ length (w .marks)) where
   kept-at false b false false true ne p q h = undo-tree-kept p q h
 
   -- Going forward, e is not null.
-  forward : (eqb (w .phase) walking && not (eqb (w .e) 0)) ≡ true → w .e ≡ 0 → ⊥
-  forward h = eqb-false (w .e) 0 (not-true (eqb (w .e) 0) (both (eqb (w .phase) walking) (not (eqb (w .e) 0)) h .1))
+  not-null : forward w ≡ true → w .e ≡ 0 → ⊥
+  not-null h = eqb-false (w .e) 0 (not-true (eqb (w .e) 0) (both (eqb (w .phase) walking) (not (eqb (w .e) 0)) h .1))
 
   pub step-kept : canStep w ≡ true → Kept w (step w)
   unfolding stepOf
-  step-kept = kept-at (eqb (w .phase) walking && not (eqb (w .e) 0)) (eqb (at 0 (w .marks) (target w (w .e))) 0) (ltb (w .n) (w .f)) (eqb (w .f) 0) (eqb (w .phase) rollingBack) forward refl refl
+  step-kept = kept-at (forward w) (fresh w) (ltb (w .n) (w .f)) (eqb (w .f) 0) (eqb (w .phase) rollingBack) not-null refl refl
 
 pub keeps : KeepClaim
 keeps w h L c = let K : Kept w (step w) = step-kept w (fields-are w h) L c in (fields-yes (step w .config) (K .fields), K .within)

@@ -1,13 +1,17 @@
+-- On any input: the run's tests, the state fields, the areas, demand 1.
+pub mod Runs
+pub mod Fields
+pub mod Confined
+pub mod AnyInput
+-- On a sound profile: places, steps between them, the invariant, demands 2 and 3.
 pub mod Bent
 pub mod Links
 pub mod Steps
 pub mod Future
 pub mod Invariant
-pub mod Runs
-pub mod Fields
+pub mod Running
 pub mod Calls
 pub mod Agreement
-pub mod Confined
-pub mod AnyInput
+-- The cards, and the wrong walkers.
 pub mod Cards
 pub mod Wrong

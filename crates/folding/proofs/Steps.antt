@@ -20,7 +20,7 @@ use Rattle.graphs.proofs.Nodes.{vertex-yes, edge-yes, link-of-edge}
 use Rattle.graphs.proofs.Labels.{Labels, labels-few}
 use Rattle.graphs.proofs.Sound.{head0, Sound}
 use Rattle.graphs.proofs.Results.{marks-label, marks-test}
-use Rattle.folding.specs.Machine.{Config, walking, restoring, finished, rollingBack, rolledBack, target, Step, tree, nontree, relink, retreat, finish, undo-tree, undo-open, pickStep, stepOf, closed, upward, fits, Stepped, relinked, enact, canStep, step}
+use Rattle.folding.specs.Machine.{Config, walking, restoring, finished, rollingBack, rolledBack, target, forward, fresh, Step, tree, nontree, relink, retreat, finish, undo-tree, undo-open, pickStep, stepOf, closed, upward, fits, Stepped, relinked, enact, canStep, step}
 use Rattle.folding.specs.Claims.{circularOf}
 use Rattle.folding.proofs.Bent.{Frame, frame, parent, path, top, bend, bentAfter, bentTail, Above, Placed, configAt, configEnd}
 use Rattle.folding.proofs.Links.{at-bend, put-bend, length-bend, length-bentAfter, length-bentTail, of-rest, of-done, clean-tail, off-vertex, next-word, ahead, below}
@@ -33,7 +33,7 @@ pub record Goes (w : Config) (s : Stepped) : Type 0 where
 pub goes-by : (w : Config) (k : Step) (s : Stepped) → stepOf w ≡ k → fits w k ≡ true → enact w k ≡ s → Goes w s
 goes-by w k s p q e = record { can = ap (fits w) p ∙ q; is = ap (enact w) p ∙ e }
 
-step-is : (w : Config) {a b c d x : Bool} → (eqb (w .phase) walking && not (eqb (w .e) 0)) ≡ a → eqb (at 0 (w .marks) (target w (w .e))) 0 ≡ b → ltb (w .n) (w .f) ≡ c → eqb (w .f) 0 ≡ d → eqb (w .phase) rollingBack ≡ x → stepOf w ≡ pickStep a b c d x
+step-is : (w : Config) {a b c d x : Bool} → forward w ≡ a → fresh w ≡ b → ltb (w .n) (w .f) ≡ c → eqb (w .f) 0 ≡ d → eqb (w .phase) rollingBack ≡ x → stepOf w ≡ pickStep a b c d x
 unfolding stepOf
 step-is w p q r s t = λ i. pickStep (p i) (q i) (r i) (s i) (t i)
 

@@ -2,5 +2,4 @@ pub mod Machine
 pub mod Calls
 pub mod Lines
 pub mod Claims
-pub mod Wrong
 pub mod Cards

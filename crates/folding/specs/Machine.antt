@@ -56,6 +56,14 @@ target w r = at (w .n) (w .tail) r
 pub data Step : Type 0 where
   tree nontree relink retreat finish undo-tree undo-open : Step
 
+-- The search goes forward: walking, with a reference next to traverse.
+abbrev pub forward : Config → Bool
+forward w = eqb (w .phase) walking && not (eqb (w .e) 0)
+
+-- t(e) is unmarked, asked before any store.
+abbrev pub fresh : Config → Bool
+fresh w = eqb (at 0 (w .marks) (target w (w .e))) 0
+
 -- The step that comes: by whether the search goes forward, t(e) is unmarked, f is a reference, f is 0, and it is rolling back.
 abbrev pub pickStep : Bool → Bool → Bool → Bool → Bool → Step
 pickStep true true c d b = tree
@@ -68,13 +76,7 @@ pickStep false a false false true = undo-tree
 
 -- The step to come (the move to come).
 unfoldable pub stepOf : Config → Step
-stepOf w =
-    pickStep
-    (eqb (w .phase) walking && not (eqb (w .e) 0))
-    (eqb (at 0 (w .marks) (target w (w .e))) 0)
-    (ltb (w .n) (w .f))
-    (eqb (w .f) 0)
-    (eqb (w .phase) rollingBack)
+stepOf w = pickStep (forward w) (fresh w) (ltb (w .n) (w .f)) (eqb (w .f) 0) (eqb (w .phase) rollingBack)
 
 -- The after words once a(v) has become e, the first store of a tree step and of a close.
 abbrev pub closed : Config → List ℕ

@@ -24,10 +24,10 @@ module _ (G : Graph) (before : List ℕ) where
   Adds rec = (u : ℕ) (h : History) → IsSuffix h (rec u h)
 
   cross-adds : (rec : ℕ → History → History) → Adds rec → (u r : ℕ) (b : Bool) (h : History) → IsSuffix h (cross (recorder before) G rec u r b h)
-  cross-adds rec a u r true h = suffix-then (event retreat-nontree r u) (suffix-then (event advance-nontree r u) (suffix-refl h))
+  cross-adds rec a u r true h = suffix-then _ (suffix-then _ (suffix-refl h))
   cross-adds rec a u r false h =
       let t : History = h ▸ event advance-tree r u in
-      suffix-then (event retreat-tree r u) (IsSuffix·trans {l₁ = h} {l₂ = t} {l₃ = rec (G .to r) t} (suffix-then (event advance-tree r u) (suffix-refl h)) (a (G .to r) t))
+      suffix-then _ (IsSuffix·trans {l₁ = h} {l₂ = t} {l₃ = rec (G .to r) t} (suffix-then (event advance-tree r u) (suffix-refl h)) (a (G .to r) t))
 
   pub walk-adds : (rec : ℕ → History → History) → Adds rec → (u : ℕ) (rs : List ℕ) (h : History) → IsSuffix h (walkEdges (recorder before) G rec u rs h)
   unfolding walkEdges
@@ -116,7 +116,7 @@ module _ (G : Graph) (before : List ℕ) (C : Closed G) where
 
   cross-same : (k j : ℕ) → Same k j → (u r : ℕ) (rs : List ℕ) (b : Bool) (h : History) → memb (G .to r) (known before h) ≡ b → CanWalk k (r ∷ rs) h → CanWalk j (r ∷ rs) h → cross (recorder before) G (search (recorder before) G k) u r b h ≡ cross (recorder before) G (search (recorder before) G j) u r b h
   cross-same k j s u r rs true h e c d = refl
-  cross-same k j s u r rs false h e c d = ap (λ (i : History). i ▸ event retreat-tree r u) (s (G .to r) (h ▸ event advance-tree r u) (can-cross k u r rs h c e) (can-cross j u r rs h d e))
+  cross-same k j s u r rs false h e c d = ap (recorder before .emit _) (s (G .to r) (h ▸ event advance-tree r u) (can-cross k u r rs h c e) (can-cross j u r rs h d e))
 
   walk-same : (k j : ℕ) → Same k j → (u : ℕ) (rs : List ℕ) (h : History) → CanWalk k rs h → CanWalk j rs h → walkEdges (recorder before) G (search (recorder before) G k) u rs h ≡ walkEdges (recorder before) G (search (recorder before) G j) u rs h
   unfolding walkEdges

@@ -8,3 +8,4 @@ pub mod Depth
 pub mod Results
 pub mod Breadth
 pub mod Room
+pub mod Examples

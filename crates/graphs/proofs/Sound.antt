@@ -14,10 +14,10 @@ use Rattle.lists.specs.Counts.{countIn, sumOf, allTo}
 use Rattle.lists.specs.Words.{at}
 use Rattle.lists.proofs.Tests.{neither, Compared, equal, other, compare}
 use Rattle.lists.proofs.Members.{mem-nil, mem-cons, each-cons, mem-append, memb-true, memb-false, append-nodup, pigeonhole}
-use Rattle.lists.proofs.Counts.{count-append, count-mem, count-once, all-at}
+use Rattle.lists.proofs.Counts.{count-append, count-mem, mem-count, count-once, all-at}
 use Rattle.graphs.specs.Nodes.{Vertex, Edge, isVertex, isLink}
 use Rattle.graphs.specs.Graph.{Closed, met}
-use Rattle.graphs.specs.Image.{Image, chain, edgesOf, to, graphOf, listsTo}
+use Rattle.graphs.specs.Image.{Image, chain, lookedFor, edgesOf, to, graphOf, listsTo}
 use Rattle.graphs.specs.Refusals.{refuse, firstOf, Lent, lent, short, verticesOut, edgesOut, vertexOut, afterOut, tailOut, listOut, imageAreas, imageRefusals, imageNumber, searchNumber}
 use Rattle.graphs.proofs.Nodes.{vertex-is, link-not-null}
 use Rattle.graphs.proofs.Labels.{Labels}
@@ -39,6 +39,7 @@ pub record Sound (g : Image) : Type 0 where
   pub owner : ℕ → ℕ
   pub own-self : (u : ℕ) → Vertex (g .n) u → owner u ≡ u
   pub own-edge : (u r : ℕ) → Vertex (g .n) u → Mem r (edgesOf g u) → owner r ≡ u
+  pub listed : (r : ℕ) → Edge (g .n) (g .m) r → Vertex (g .n) (owner r) × Mem r (edgesOf g (owner r))
   pub edge : (u r : ℕ) → Vertex (g .n) u → Mem r (edgesOf g u) → Edge (g .n) (g .m) r
   pub target : (r : ℕ) → Edge (g .n) (g .m) r → Vertex (g .n) (to g r)
   pub once : (u : ℕ) → Vertex (g .n) u → NoDup (edgesOf g u)
@@ -84,6 +85,21 @@ module _ (g : Image) where
       go (equal e z) ih sum = let i : countIn r (edgesOf g u) ≤ countIn r (listsTo g k) = lists-one r k u p (omega arith) in rw e (omega arith)
       go (other ne z) ih sum = let i = ih (omega arith) in omega arith
 
+  -- r stands on the list of one of 1 to k.
+  record On (r k : ℕ) : Type 0 where
+    vertex : ℕ
+    low : 0 < vertex
+    high : vertex ≤ k
+    on : Mem r (edgesOf g vertex)
+
+  lists-member : (r k : ℕ) → Mem r (listsTo g k) → On r k
+  lists-member r zero m = absurd (mem-nil m)
+  lists-member r (suc k) m = go (λ q. lists-member r k q) (mem-append (listsTo g k) (edgesOf g (suc k)) m)
+    where
+      go : (Mem r (listsTo g k) → On r k) → Mem r (listsTo g k) ⊎ Mem r (edgesOf g (suc k)) → On r (suc k)
+      go ih (inl q) = let o = ih q in record { vertex = o .vertex; low = o .low; high = omega (arith, o .high); on = o .on }
+      go ih (inr q) = record { vertex = suc k; low = omega arith; high = omega arith; on = q }
+
   -- ---- owners
   abbrev find : ℕ → ℕ → ℕ
   find r zero = 0
@@ -100,16 +116,27 @@ module _ (g : Image) where
       go true e ih = one (suc k) (omega arith) (memb-true r (edgesOf g (suc k)) e)
       go false e ih = ih (let ne : u ≡ suc k → ⊥ = λ z. memb-false r (edgesOf g (suc k)) e (subst (λ (y : ℕ). Mem r (edgesOf g y)) z m) in omega arith)
 
+  -- ---- lists
+  -- Where every after word is a link, a list holds edges.
+  edges-in : ((x : ℕ) → 0 < x → x ≤ g .n + g .m → isLink (g .n) (g .m) (at 0 (g .after) x) ≡ true) → (u r : ℕ) → Vertex (g .n) u → Mem r (edgesOf g u) → Edge (g .n) (g .m) r
+  unfolding edgesOf
+  edges-in h u r hu m = chain-edges (g .n) (g .m) (g .after) h (lookedFor g) (at 0 (g .after) u) (h u (hu .0) (omega arith)) r m
+
+  -- A list of at most m edges has come to its end.
+  list-linked : (u : ℕ) → length (edgesOf g u) ≤ g .m → (at 0 (g .after) u ≡ head0 (edgesOf g u)) × Linked (g .after) (edgesOf g u)
+  unfolding edgesOf
+  list-linked u h = chain-linked (g .after) (lookedFor g) (at 0 (g .after) u) (omega arith)
+
   -- ---- the tests give it
   sound-of : verticesOut (g .n) ≡ false → edgesOut (g .m) ≡ false → g .n + g .m ≤ length (g .after) → g .m ≤ length (g .tail) → firstOf (imageRefusals g) ≡ 0 → Sound g
-  unfolding edgesOf
   sound-of hn hm la lt h =
       record {
         few-vertices = ltb-false 1000 (g .n) (neither (eqb (g .n) 0) (ltb 1000 (g .n)) hn .1);
         few-edges = ltb-false 4000 (g .m) hm;
         owner = ownerOf;
         own-self = λ u hu. ap (λ (b : Bool). cond b u (find u (g .n))) (le-leb u (g .n) (hu .1));
-        own-edge = λ u r hu m. ap (λ (b : Bool). cond b r (find r (g .n))) (lt-leb r (g .n) (edges u r hu m .0)) ∙ find-is r u (λ t ht k. one r t u ht hu k m) m (g .n) (omega arith) (hu .0) (hu .1);
+        own-edge = owns;
+        listed = λ r e. listed r (lists-member r (g .n) (mem-count r (listsTo g (g .n)) (let c = counted r e in omega arith)));
         edge = edges;
         target = λ r e. vertex-is (g .n) (to g r) (subst (λ (x : ℕ). isVertex (g .n) x ≡ true) (place r e) (all-at (λ k. isVertex (g .n) (at 0 (g .tail) k)) (g .m) (not-false _ (h6 .0)) (r - g .n) (let z = e in omega arith) (let z = e in omega arith)));
         once = nodup;
@@ -132,7 +159,7 @@ module _ (g : Image) where
       links-in = all-at (λ x. isLink (g .n) (g .m) (at 0 (g .after) x)) (g .n + g .m) (not-false _ (h5 .0))
 
       edges : (u r : ℕ) → Vertex (g .n) u → Mem r (edgesOf g u) → Edge (g .n) (g .m) r
-      edges u r hu m = chain-edges (g .n) (g .m) (g .after) links-in (suc (g .m)) (at 0 (g .after) u) (links-in u (hu .0) (omega arith)) r m
+      edges = edges-in links-in
 
       place : (r : ℕ) → Edge (g .n) (g .m) r → at 0 (g .tail) (r - g .n) ≡ to g r
       place r e = same-place (g .n) r (g .tail) (e .0)
@@ -154,8 +181,14 @@ module _ (g : Image) where
           let more : u < t → ⊥ = λ z. (let q : countIn r (edgesOf g u) + countIn r (edgesOf g t) ≤ countIn r (listsTo g (g .n)) = lists-two r (g .n) u t (hu .0) z (ht .1) in omega arith) in
           omega arith
 
+      owns : (u r : ℕ) → Vertex (g .n) u → Mem r (edgesOf g u) → ownerOf r ≡ u
+      owns u r hu m = ap (λ (b : Bool). cond b r (find r (g .n))) (lt-leb r (g .n) (edges u r hu m .0)) ∙ find-is r u (λ t ht k. one r t u ht hu k m) m (g .n) (omega arith) (hu .0) (hu .1)
+
+      listed : (r : ℕ) → On r (g .n) → Vertex (g .n) (ownerOf r) × Mem r (edgesOf g (ownerOf r))
+      listed r o = subst (λ (u : ℕ). Vertex (g .n) u × Mem r (edgesOf g u)) (sym (owns (o .vertex) r (o .low, o .high) (o .on))) ((o .low, o .high), o .on)
+
       links : (u : ℕ) → Vertex (g .n) u → (at 0 (g .after) u ≡ head0 (edgesOf g u)) × Linked (g .after) (edgesOf g u)
-      links u hu = chain-linked (g .after) (suc (g .m)) (at 0 (g .after) u) (let q : length (edgesOf g u) ≤ g .m = pigeonhole (g .n) (g .m) (edgesOf g u) (nodup u hu) (λ r m. edges u r hu m) in omega arith)
+      links u hu = list-linked u (pigeonhole (g .n) (g .m) (edgesOf g u) (nodup u hu) (λ r m. edges u r hu m))
 
 -- An image that is not refused is sound, and what is lent besides is long enough.
 pub image-sound : (g : Image) (areas : List Lent) → imageNumber g areas ≡ 0 → Sound g × (short areas ≡ false)

@@ -18,9 +18,13 @@ chain zero after x = []
 chain (suc k) after zero = []
 chain (suc k) after (suc y) = suc y ∷ chain k after (at 0 after (suc y))
 
--- The list of u. In a sound image it has at most m references; one more is looked for, so that a ring does not pass for a list.
+-- A list has at most m references; one more is looked for, so that a ring does not pass for a list.
+abbrev pub lookedFor : Image → ℕ
+lookedFor g = suc (g .m)
+
+-- The list of u.
 unfoldable pub edgesOf : Image → ℕ → List ℕ
-edgesOf g u = chain (suc (g .m)) (g .after) (at 0 (g .after) u)
+edgesOf g u = chain (lookedFor g) (g .after) (at 0 (g .after) u)
 
 -- The element that r leads to.
 abbrev pub to : Image → ℕ → ℕ

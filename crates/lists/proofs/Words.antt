@@ -17,11 +17,11 @@ use Rattle.lists.proofs.Tests.{Compared, equal, other, compare}
 module _ (b : ℕ) where
   pub length-put : (area : List ℕ) (x w : ℕ) → length (put b area x w) ≡ length area
   unfolding put
-  length-put area x w = length-set area (x - suc b) w
+  length-put area x w = length-set area _ w
 
   pub put-put : (area : List ℕ) (x v w : ℕ) → put b (put b area x v) x w ≡ put b area x w
   unfolding put
-  put-put area x v w = set-set area (x - suc b) v w
+  put-put area x v w = set-set area _ v w
 
   pub put-at : (area : List ℕ) (x : ℕ) → put b area x (at b area x) ≡ area
   unfolding put at

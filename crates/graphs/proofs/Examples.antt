@@ -1,0 +1,57 @@
+-- What the searches leave in the areas, and the array form, of two small profiles: the printed one, and one whose element 1 refers to
+-- itself before it refers to 2.
+-- By computation on the definitions.
+use mathlib.Core.Path.{_≡_, refl}
+use mathlib.Core.Bool.{true}
+use mathlib.Core.List.{List, [], _∷_}
+use Prim.Native.Nat.{ℕ}
+use lib.ListN.{replicate}
+use Rattle.lists.specs.Words.{at}
+use Rattle.graphs.specs.Events.{History, tally}
+use Rattle.graphs.specs.Search.{walkEdges, search, depthFirst, traverseAll, drain, breadthFirst}
+use Rattle.graphs.specs.Results.{marksLeft, queueLeft, parentLeft, incrementLeft}
+use Rattle.graphs.specs.Image.{Image, edgesOf, graphOf}
+use Rattle.graphs.specs.ArrayForm.{arrayOf, arrayGraph, inOrder, numbersOf}
+
+abbrev printed : Image
+printed = record { n = 3; m = 4; after = 4 ∷ 6 ∷ 7 ∷ 5 ∷ 0 ∷ 0 ∷ 0 ∷ []; tail = 2 ∷ 3 ∷ 3 ∷ 1 ∷ [] }
+
+abbrev second : Image
+second = record { n = 2; m = 2; after = 3 ∷ 0 ∷ 4 ∷ 0 ∷ []; tail = 1 ∷ 2 ∷ [] }
+
+abbrev depth : Image → History
+depth g = depthFirst (graphOf g) [] 1
+
+abbrev breadth : Image → History
+breadth g = breadthFirst (graphOf g) [] 1
+
+-- An area of k words that are not 0.
+abbrev lentArea : ℕ → List ℕ
+lentArea k = replicate k 9
+
+pub marks-printed : marksLeft 7 (depth printed) (lentArea 8) ≡ 1 ∷ 2 ∷ 3 ∷ 0 ∷ 0 ∷ 0 ∷ 0 ∷ 9 ∷ []
+unfolding at edgesOf walkEdges search depthFirst
+marks-printed = refl
+
+pub tally-printed : tally (depth printed) ≡ 3 ∷ 2 ∷ 2 ∷ 2 ∷ 2 ∷ 3 ∷ 0 ∷ []
+unfolding at edgesOf walkEdges search depthFirst
+tally-printed = refl
+
+-- 0 for the start and its child 2; for 3 the reference into its parent 2.
+pub parents-printed : parentLeft (graphOf printed) (depth printed) (lentArea 4) ≡ 0 ∷ 0 ∷ 4 ∷ 9 ∷ []
+unfolding at edgesOf walkEdges search depthFirst
+parents-printed = refl
+
+pub queue-printed : queueLeft 3 (breadth printed) (lentArea 3) ≡ 1 ∷ 2 ∷ 3 ∷ []
+unfolding at edgesOf traverseAll drain breadthFirst
+queue-printed = refl
+
+-- The second reference of 1 is its last tree reference; 2 has none.
+pub increments-second : incrementLeft (graphOf second) (depth second) (lentArea 2) ≡ 2 ∷ 1 ∷ []
+unfolding at edgesOf walkEdges search depthFirst
+increments-second = refl
+
+-- The array form, its rule, the reference number of each position, and its lists.
+pub array-printed : (arrayOf printed .firsts ≡ 1 ∷ 3 ∷ 4 ∷ 5 ∷ []) × (arrayOf printed .tails ≡ 2 ∷ 3 ∷ 3 ∷ 1 ∷ []) × (numbersOf printed ≡ 4 ∷ 5 ∷ 6 ∷ 7 ∷ []) × (inOrder (arrayOf printed) ≡ true) × (arrayGraph (arrayOf printed) .out 1 ≡ 4 ∷ 5 ∷ [])
+unfolding at edgesOf
+array-printed = (refl, refl, refl, refl, refl)
