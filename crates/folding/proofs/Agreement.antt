@@ -1,26 +1,25 @@
 -- Demand 3, and demand 2 of the folded search: what line B's invariant says of the line.
 -- By the phase; line A's advances are the references met, its scans the elements reached.
 use mathlib.Core.Path.{_≡_, refl, sym, ap, _∙_, subst}
-use mathlib.Core.Logic.{_↔_, _≢_, _⊎_, inl, inr}
+use mathlib.Core.Logic.{_⊎_, inl, inr}
 use mathlib.Core.Bool.{Bool, true, false, cond}
-use mathlib.Core.List.{List, [], _∷_, append-nil, reverse, reverse-reverse, IsPrefix, IsSuffix}
-use Prim.Native.Nat.{ℕ, suc, _+_, _*_, _≤_, _<_}
+use mathlib.Core.List.{List, [], _∷_, append-nil, reverse, reverse-reverse, IsPrefix}
+use Prim.Native.Nat.{ℕ, _+_, _*_, _≤_, _<_}
 use native.Mathlib.Omega.{arith}
 use lib.ListN.{length}
 use lib.Dec.{eqb}
 use borrow.Author.Tests.{eqb-true, eqb-false}
 use Rattle.lists.specs.Members.{Same}
-use Rattle.lists.specs.Words.{cleared}
 use Rattle.lists.proofs.Tests.{clash}
 use Rattle.lists.proofs.Counts.{same-sum, same-length}
 use Rattle.graphs.specs.Nodes.{Vertex}
 use Rattle.graphs.specs.Graph.{Reached, met}
-use Rattle.graphs.specs.Events.{Event, event, label, scan, advance-nontree, History, labelled, scanned, count}
+use Rattle.graphs.specs.Events.{Event, event, label, scan, History, labelled, scanned}
 use Rattle.graphs.specs.Depth.{DepthFirst}
 use Rattle.graphs.specs.Results.{marksLeft}
 use Rattle.graphs.specs.Image.{Image, graphOf}
 use Rattle.graphs.specs.Refusals.{lent}
-use Rattle.graphs.specs.Claims.{Ready, DepthClaim}
+use Rattle.graphs.specs.Claims.{Ready}
 use Rattle.graphs.proofs.Refusals.{long}
 use Rattle.graphs.proofs.Sound.{Sound, Profile, profile-sound, met-most}
 use Rattle.graphs.proofs.Labels.{labels-few, reached-labels}
@@ -31,9 +30,9 @@ use Rattle.folding.specs.Machine.{Config, walking, restoring, finished, 
 use Rattle.folding.specs.Calls.{Reason, ended, spent, stuck, Reply, unless, over, run, Call, runFor, numberOf, perform, serve, opening, openNumber, unopened, openedAt, openReply}
 use Rattle.folding.specs.Lines.{Line, begun, calls, lineA, lineB, folded}
 use Rattle.folding.specs.Claims.{circularOf, stopReason, Faultless, Labelling, Demand2, Agrees, Agreement}
-use Rattle.folding.proofs.Bent.{Frame, configAt}
+use Rattle.folding.proofs.Bent.{Frame}
 use Rattle.folding.proofs.Future.{allOf, finishing, advances, scans, Short, short, prefix-of}
-use Rattle.folding.proofs.Invariant.{Trace, Scene, Closed, Holds, at-walking, at-restoring, at-rolling, at-end, at-undone, weight}
+use Rattle.folding.proofs.Invariant.{Trace, Scene, Holds, at-walking, at-restoring, at-rolling, at-end, at-undone, weight}
 use Rattle.folding.proofs.Runs.{run-stops}
 use Rattle.folding.proofs.Running.{Free, advance, Ran, run-holds}
 use Rattle.folding.proofs.Calls.{traceOf, Held, run-number, calls-held, opened-held}

@@ -4,12 +4,11 @@ use mathlib.Core.Path.{_≡_, refl, sym, ap, _∙_, subst}
 use mathlib.Core.Logic.{_≢_}
 use mathlib.Core.Bool.{Bool, true, false, not, _&&_}
 use mathlib.Core.List.{List, [], _∷_}
-use Prim.Native.Nat.{ℕ, zero, suc, _+_, _*_, _≤_, _<_}
+use Prim.Native.Nat.{ℕ, zero, suc, _+_, _*_, _≤_}
 use native.Mathlib.Omega.{arith}
 use lib.ListN.{length, drop}
-use borrow.Author.Tests.{not-false, not-true}
-use Rattle.lists.specs.Words.{put, overlay, cleared}
-use Rattle.lists.proofs.Tests.{neither}
+use borrow.Author.Tests.{not-false}
+use Rattle.lists.specs.Words.{overlay, cleared}
 use Rattle.lists.proofs.Words.{length-put, length-cleared, put-past, cleared-past, length-overlay, overlay-past}
 use Rattle.graphs.specs.Events.{Event, event, label, words}
 use Rattle.graphs.specs.Image.{Image}
@@ -18,7 +17,7 @@ use Rattle.graphs.proofs.Refusals.{passes, long}
 use Rattle.graphs.proofs.Sound.{profile-sound}
 use Rattle.graphs.proofs.Room.{words-length}
 use Rattle.folding.specs.Machine.{Config, rollingBack, canStep, step}
-use Rattle.folding.specs.Calls.{Reason, stuck, Answer, ran, taken, refused, Reply, refusing, unless, over, fieldsIn, stateNumber, workAreas, runNumber, stepNumber, inPhase, run, Call, runFor, single, rollBack, areaOf, numberOf, perform, serve, unopened, openNumber, openedAt, openReply, opening}
+use Rattle.folding.specs.Calls.{Reason, Answer, ran, taken, refused, Reply, refusing, unless, over, fieldsIn, stateNumber, workAreas, runNumber, stepNumber, inPhase, run, Call, runFor, single, rollBack, areaOf, numberOf, perform, serve, unopened, openNumber, openedAt, openReply, opening}
 use Rattle.folding.specs.Lines.{folded}
 use Rattle.folding.specs.Claims.{Judged, Within, Confined, Demand1, StepClaim, Tested, RunClaim}
 use Rattle.folding.proofs.Fields.{Fields, fields-are}

@@ -3,7 +3,7 @@
 use mathlib.Core.Path.{_≡_, refl, sym, ap, _∙_, subst}
 use mathlib.Core.Bool.{Bool, true, false, cond, _&&_, _||_, not}
 use mathlib.Core.List.{List, [], _∷_, _++_, append-nil, reverse, reverseAux}
-use Prim.Native.Nat.{ℕ, zero, suc, _+_, _*_, _≤_, _<_}
+use Prim.Native.Nat.{ℕ, zero, suc, _+_, _*_, _≤_}
 use native.Mathlib.Omega.{arith}
 use native.Mathlib.Nat.{add-zero}
 use lib.ListN.{length}
@@ -22,14 +22,14 @@ use Rattle.graphs.specs.Image.{Image, edgesOf, graphOf}
 use Rattle.graphs.specs.Refusals.{Refusal, refuse, firstOf, verticesOut, edgesOut, vertexOut}
 use Rattle.graphs.proofs.Nodes.{vertex-yes}
 use Rattle.graphs.proofs.Labels.{Labels, label-ok, labels-few}
-use Rattle.graphs.proofs.Sound.{head0, Sound, graph-closed}
-use Rattle.graphs.proofs.DepthGrowth.{Can, search-unroll}
+use Rattle.graphs.proofs.Sound.{Sound, graph-closed}
+use Rattle.graphs.proofs.DepthGrowth.{search-unroll}
 use Rattle.graphs.proofs.Results.{marks-first, marks-length}
-use Rattle.folding.specs.Machine.{Config, walking, restoring, finished, rollingBack, rolledBack, Stepped, canStep, step}
-use Rattle.folding.specs.Calls.{Reason, ended, spent, stuck, Answer, ran, taken, refused, Reply, refusing, unless, over, fieldsIn, stateNumber, workAreas, runNumber, stepNumber, rollBackNumber, inPhase, Run, run, Call, runFor, single, rollBack, areaOf, numberOf, perform, serve, openedAt}
+use Rattle.folding.specs.Machine.{Config, walking, restoring, finished, rollingBack, rolledBack, canStep, step}
+use Rattle.folding.specs.Calls.{Reason, ended, spent, stuck, Answer, ran, refused, refusing, unless, over, fieldsIn, stateNumber, workAreas, inPhase, run, Call, runFor, single, rollBack, areaOf, numberOf, perform, serve, openedAt}
 use Rattle.folding.specs.Lines.{Line, orders, addIf, noted, calls, folded}
-use Rattle.folding.specs.Claims.{flag, circularOf, Faultless}
-use Rattle.folding.proofs.Bent.{Frame, parent, bentAfter, Placed, configAt, configEnd}
+use Rattle.folding.specs.Claims.{flag, Faultless}
+use Rattle.folding.proofs.Bent.{Frame, parent, bentAfter, configAt, configEnd}
 use Rattle.folding.proofs.Links.{length-bend, length-bentAfter, length-bentTail}
 use Rattle.folding.proofs.Steps.{link-rest, node-top}
 use Rattle.folding.proofs.Future.{allOf, finishing, Short, short, in-order}

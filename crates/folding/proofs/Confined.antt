@@ -1,21 +1,20 @@
 -- On any words at all, sound or not: a step that fits leaves every state field in kind, every area as long as it was, and every word past
 -- the stated lengths; so does a run, and the words of its events fit its area.
 -- Each store of a step is at a node that the step has judged, or that a state field in kind names.
-use mathlib.Core.Path.{_≡_, refl, sym, ap, _∙_, subst}
+use mathlib.Core.Path.{_≡_, refl, sym, _∙_}
 use mathlib.Core.Bool.{Bool, true, false, _&&_, not}
-use mathlib.Core.List.{List, [], _∷_, _++_}
-use Prim.Native.Nat.{ℕ, zero, suc, _+_, _*_, _≤_, _<_}
+use Prim.Native.Nat.{ℕ, zero, suc, _+_, _*_, _≤_}
 use native.Mathlib.Omega.{arith}
 use lib.ListN.{length, drop, length-append}
 use lib.Dec.{eqb, ltb, leb}
-use borrow.Author.Tests.{eqb-false, ltb-true, ltb-false, leb-true, lt-ltb, le-leb, not-true}
-use Rattle.lists.specs.Words.{at, put, cleared}
-use Rattle.lists.proofs.Tests.{and-true, both, clash}
+use borrow.Author.Tests.{eqb-false, ltb-false, leb-true, lt-ltb, le-leb, not-true}
+use Rattle.lists.specs.Words.{at}
+use Rattle.lists.proofs.Tests.{and-true, both}
 use Rattle.lists.proofs.Words.{length-put, length-cleared, put-past, cleared-past}
-use Rattle.graphs.specs.Nodes.{Vertex, Edge, isVertex, isEdge, isLink, isNode}
+use Rattle.graphs.specs.Nodes.{Vertex, isVertex, isEdge, isLink, isNode}
 use Rattle.graphs.proofs.Nodes.{vertex-is, edge-is, link-of-edge, link-not-null, link-node}
-use Rattle.folding.specs.Machine.{Config, walking, restoring, finished, rollingBack, rolledBack, target, forward, fresh, Step, tree, nontree, relink, retreat, finish, undo-tree, undo-open, pickStep, stepOf, closed, upward, fits, Stepped, relinked, enact, canStep, step}
-use Rattle.folding.specs.Calls.{over, Run, stop, onward, proceed, run}
+use Rattle.folding.specs.Machine.{Config, walking, rollingBack, target, forward, fresh, tree, nontree, relink, retreat, finish, undo-tree, undo-open, pickStep, stepOf, closed, upward, fits, Stepped, relinked, enact, canStep, step}
+use Rattle.folding.specs.Calls.{over, Run, proceed, run}
 use Rattle.folding.specs.Claims.{Within, KeepClaim}
 use Rattle.folding.proofs.Fields.{Fields, fields-yes, fields-are}
 

@@ -1,8 +1,8 @@
 -- The state fields in kind, as a test and as facts.
 -- The test is the conjunction of the facts' tests.
 use mathlib.Core.Path.{_≡_}
-use mathlib.Core.Bool.{Bool, true, _&&_}
-use Prim.Native.Nat.{ℕ, suc, _≤_}
+use mathlib.Core.Bool.{true, _&&_}
+use Prim.Native.Nat.{suc, _≤_}
 use lib.Dec.{ltb, leb}
 use borrow.Author.Tests.{leb-true, le-leb}
 use Rattle.lists.proofs.Tests.{and-true, both}

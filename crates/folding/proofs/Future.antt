@@ -1,11 +1,9 @@
 -- What is left of the recursive search at a place, and that it only adds to the events so far.
 -- The rest of the search is a function of the place; searching adds events, so the events so far are the first of all.
-use mathlib.Core.Path.{_≡_, refl, sym, ap, _∙_, subst}
-use mathlib.Core.Bool.{Bool, true, false}
+use mathlib.Core.Path.{_≡_, sym, ap, _∙_, subst}
 use mathlib.Core.List.{List, [], _∷_, _++_, reverse, reverse-append, reverseAux, reverseAux-eq, reverseAux-reverseAux-nil, IsPrefix, IsSuffix, suffix-refl, IsSuffix·trans}
-use Prim.Native.Nat.{ℕ, suc, _+_, _≤_, _<_}
+use Prim.Native.Nat.{ℕ, _+_, _≤_, _<_}
 use native.Mathlib.Omega.{arith}
-use Rattle.lists.specs.Counts.{bump}
 use Rattle.lists.proofs.Counts.{bump-grow}
 use Rattle.graphs.specs.Events.{Kind, Event, event, advance-tree, advance-nontree, retreat-tree, scan, History, _▸_, same, count}
 use Rattle.graphs.specs.Search.{recorder, walkEdges, search, depthFirst}

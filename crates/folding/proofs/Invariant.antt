@@ -2,8 +2,8 @@
 -- One case for each phase: the place, what is left of the recursive search from it, and the balance of the steps made.
 use mathlib.Core.Path.{_≡_, refl, sym, ap, _∙_, subst}
 use mathlib.Core.Bool.{Bool, true, false, _&&_, not}
-use mathlib.Core.List.{List, [], _∷_, _++_, append-nil, reverseAux, IsSuffix}
-use Prim.Native.Nat.{ℕ, zero, suc, _+_, _*_, _≤_, _<_}
+use mathlib.Core.List.{List, [], _∷_, append-nil, reverseAux, IsSuffix}
+use Prim.Native.Nat.{ℕ, suc, _+_, _*_, _≤_}
 use native.Mathlib.Omega.{arith}
 use lib.ListN.{length}
 use lib.Dec.{eqb}
@@ -11,8 +11,8 @@ use Rattle.lists.specs.Members.{Mem, here, there, memb}
 use Rattle.lists.specs.Words.{at, cleared}
 use Rattle.lists.proofs.Tests.{clash}
 use Rattle.lists.proofs.Members.{each-cons, memb-false}
-use Rattle.graphs.specs.Nodes.{Vertex, Edge, isLink}
-use Rattle.graphs.specs.Events.{Event, event, label, advance-tree, advance-nontree, retreat-nontree, retreat-tree, scan, History, _▸_, known, labelled}
+use Rattle.graphs.specs.Nodes.{Vertex, isLink}
+use Rattle.graphs.specs.Events.{event, label, advance-tree, advance-nontree, retreat-nontree, retreat-tree, scan, History, _▸_, known, labelled}
 use Rattle.graphs.specs.Search.{recorder, cross, walkEdges}
 use Rattle.graphs.specs.Results.{marksLeft}
 use Rattle.graphs.specs.Image.{Image, edgesOf, to, graphOf}

@@ -1,21 +1,16 @@
 -- Runs on any configuration: why they stop, and how they compose.
 -- By recursion on the budget.
-use mathlib.Core.Path.{_≡_, refl, sym, ap, _∙_, subst}
+use mathlib.Core.Path.{_≡_, refl, sym, ap, _∙_}
 use mathlib.Core.Bool.{Bool, true, false, cond}
-use mathlib.Core.List.{List, [], _∷_, _++_, append-assoc, reverseAux, reverseAux-append}
+use mathlib.Core.List.{List, append-assoc}
 use Prim.Native.Nat.{ℕ, zero, suc, _+_, _≤_}
 use native.Mathlib.Omega.{arith}
-use native.Mathlib.Nat.{add-zero}
 use lib.Dec.{eqb·suc-suc}
 use borrow.Author.Tests.{ne-eqb}
 use Rattle.graphs.specs.Events.{Event}
-use Rattle.graphs.specs.Image.{Image}
-use Rattle.graphs.proofs.Sound.{Sound}
-use Rattle.folding.specs.Machine.{Config, Stepped, canStep, step}
+use Rattle.folding.specs.Machine.{Config, canStep, step}
 use Rattle.folding.specs.Calls.{Reason, ended, spent, stuck, over, Run, stop, onward, proceed, run}
-use Rattle.folding.specs.Lines.{addIf}
 use Rattle.folding.specs.Claims.{stopReason, joined, ComposeClaim}
-use Rattle.folding.proofs.Invariant.{Trace, tick, Holds, Moves, move}
 
 -- ---- why a run stops
 pub record Stops (k : ℕ) (r : Run) : Type 0 where

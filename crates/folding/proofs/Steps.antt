@@ -3,24 +3,24 @@
 use mathlib.Core.Path.{_≡_, refl, sym, ap, _∙_, subst}
 use mathlib.Core.Bool.{Bool, true, false, _&&_, not}
 use mathlib.Core.List.{List, [], _∷_, reverseAux}
-use Prim.Native.Nat.{ℕ, suc, _+_, _≤_, _<_}
+use Prim.Native.Nat.{ℕ, suc, _+_, _≤_}
 use native.Mathlib.Omega.{arith}
 use lib.ListN.{length}
-use lib.Dec.{eqb, ltb, leb}
+use lib.Dec.{eqb, ltb}
 use borrow.Author.Tests.{eq-eqb, lt-ltb, le-ltb, le-leb}
 use Rattle.lists.specs.Members.{Mem, here, memb}
 use Rattle.lists.specs.Words.{at, put, cleared}
 use Rattle.lists.proofs.Tests.{and-true, zero-test}
 use Rattle.lists.proofs.Words.{length-put, put-put, put-at, at-put}
 use Rattle.graphs.specs.Nodes.{Vertex, Edge, isVertex, isEdge, isLink, isNode}
-use Rattle.graphs.specs.Events.{Event, event, label, advance-tree, advance-nontree, retreat-nontree, retreat-tree, scan, History, _▸_, labelled}
+use Rattle.graphs.specs.Events.{event, label, advance-tree, advance-nontree, retreat-nontree, retreat-tree, scan, History, _▸_, labelled}
 use Rattle.graphs.specs.Results.{marksLeft}
 use Rattle.graphs.specs.Image.{Image, edgesOf, to}
 use Rattle.graphs.proofs.Nodes.{vertex-yes, edge-yes, link-of-edge}
 use Rattle.graphs.proofs.Labels.{Labels, labels-few}
 use Rattle.graphs.proofs.Sound.{head0, Sound}
 use Rattle.graphs.proofs.Results.{marks-label, marks-test}
-use Rattle.folding.specs.Machine.{Config, walking, restoring, finished, rollingBack, rolledBack, target, forward, fresh, Step, tree, nontree, relink, retreat, finish, undo-tree, undo-open, pickStep, stepOf, closed, upward, fits, Stepped, relinked, enact, canStep, step}
+use Rattle.folding.specs.Machine.{Config, walking, finished, rollingBack, rolledBack, target, forward, fresh, Step, tree, nontree, relink, retreat, finish, undo-tree, undo-open, pickStep, stepOf, closed, upward, fits, Stepped, relinked, enact, canStep, step}
 use Rattle.folding.specs.Claims.{circularOf}
 use Rattle.folding.proofs.Bent.{Frame, frame, parent, path, top, bend, bentAfter, bentTail, Above, Placed, configAt, configEnd}
 use Rattle.folding.proofs.Links.{at-bend, put-bend, length-bend, length-bentAfter, length-bentTail, of-rest, of-done, clean-tail, off-vertex, next-word, ahead, below}

@@ -1,6 +1,6 @@
 -- The wrong walkers of document 01 c, over the same interface as ours; each fails the claim that is named beside it there.
 -- One small profile each, on which the claim computes to something false.
-use mathlib.Core.Path.{_≡_, refl, sym, ap, _∙_}
+use mathlib.Core.Path.{_≡_, refl, ap}
 use mathlib.Core.Bool.{cond}
 use mathlib.Core.List.{List, [], _∷_}
 use Prim.Native.Nat.{ℕ, zero, suc}
@@ -12,7 +12,7 @@ use Rattle.lists.specs.Words.{at, put, overlay}
 use Rattle.lists.proofs.Tests.{clash}
 use Rattle.graphs.specs.Graph.{Graph, Reached}
 use Rattle.graphs.specs.Events.{Event, event, label, scan, History, words, labelled}
-use Rattle.graphs.specs.Depth.{Searches, DepthFirst}
+use Rattle.graphs.specs.Depth.{Searches}
 use Rattle.graphs.specs.Search.{walkEdges, search, depthFirst}
 use Rattle.graphs.specs.Image.{Image, edgesOf, graphOf}
 use Rattle.graphs.specs.Claims.{Ready}

@@ -9,7 +9,7 @@ use Rattle.graphs.specs.Nodes.{isVertex, isLink, isNode}
 use Rattle.graphs.specs.Events.{Event, event, label, words}
 use Rattle.graphs.specs.Image.{Image}
 use Rattle.graphs.specs.Refusals.{Refusal, refuse, firstOf, Lent, lent, short, verticesOut, edgesOut, vertexOut, figureOut, searchNumber}
-use Rattle.folding.specs.Machine.{Config, walking, restoring, finished, rollingBack, rolledBack, accepted, Stepped, canStep, step}
+use Rattle.folding.specs.Machine.{Config, walking, restoring, finished, rollingBack, rolledBack, accepted, canStep, step}
 
 -- Why a run stops.
 pub data Reason : Type 0 where

@@ -1,7 +1,7 @@
 -- The folded depth-first search, step by step (document 01, "The folded depth-first walk"; its moves are steps here).
 use mathlib.Core.Bool.{Bool, true, false, _&&_, not}
 use mathlib.Core.List.{List, [], _∷_}
-use Prim.Native.Nat.{ℕ, suc, _+_}
+use Prim.Native.Nat.{ℕ, suc}
 use lib.Dec.{eqb, ltb, leb}
 use Rattle.lists.specs.Words.{at, put, cleared}
 use Rattle.graphs.specs.Nodes.{isVertex, isEdge, isLink, isNode}

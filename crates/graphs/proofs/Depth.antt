@@ -1,26 +1,25 @@
 -- The depth-first claim: the relation has one outcome, the executable search; it labels and scans what a path leads to, each once.
 -- The executable search satisfies the relation by recursion on its fuel; two derivations are compared step by step.
 use mathlib.Core.Path.{_≡_, refl, sym, ap, _∙_, subst}
-use mathlib.Core.Logic.{_⊎_, inl, inr, _↔_}
+use mathlib.Core.Logic.{_⊎_, inl, inr}
 use mathlib.Core.Bool.{Bool, true, false}
-use mathlib.Core.List.{List, [], _∷_, _++_}
-use Prim.Native.Nat.{ℕ, zero, suc, _+_, _*_, _≤_, _<_}
+use mathlib.Core.List.{List, [], _∷_}
+use Prim.Native.Nat.{ℕ, zero, suc, _+_, _*_, _≤_}
 use native.Mathlib.Omega.{arith}
 use lib.ListN.{length}
 use lib.Dec.{eqb}
-use Rattle.lists.specs.Members.{Mem, here, there, NoDup, memb}
+use Rattle.lists.specs.Members.{Mem, here, there, memb}
 use Rattle.lists.specs.Counts.{bump, countIn, sumOf}
 use Rattle.lists.proofs.Members.{mem-nil, each-cons, mem-append, mem-right, memb-true, memb-false, nodup-left}
 use Rattle.lists.proofs.Counts.{count-sum, sum-same}
-use Rattle.graphs.specs.Nodes.{Vertex}
 use Rattle.graphs.specs.Graph.{Graph, Closed, Leads, stays, along, Reached, met}
-use Rattle.graphs.specs.Events.{event, label, advance-tree, advance-nontree, retreat-tree, retreat-nontree, scan, History, _▸_, known, labelled, scanned, traversed, count}
+use Rattle.graphs.specs.Events.{event, label, advance-tree, retreat-tree, scan, History, _▸_, known, labelled, scanned, traversed}
 use Rattle.graphs.specs.Depth.{Searches, searches, Traverses, none, tree, nontree, DepthFirst}
 use Rattle.graphs.specs.Search.{recorder, cross, walkEdges, search, depthFirst}
-use Rattle.graphs.specs.Claims.{Ready, Complete, DepthClaim, DepthFirstClaim}
+use Rattle.graphs.specs.Claims.{Ready, DepthClaim, DepthFirstClaim}
 use Rattle.graphs.proofs.Labels.{Labels, Done, reached-counts}
 use Rattle.graphs.proofs.DepthGrowth.{Can, CanWalk, can-walk, can-cross, no-fuel, Labelled, search-labels, search-same, next-walk}
-use Rattle.graphs.proofs.DepthCounts.{Balance, depth-balance}
+use Rattle.graphs.proofs.DepthCounts.{depth-balance}
 
 -- ---- one outcome
 module _ {G : Graph} {before : List ℕ} where

@@ -1,7 +1,7 @@
 -- What the executable depth-first search counts: each labelled vertex is scanned, each edge on its list is traversed, each advance has
 -- its retreat.
 -- One balance between the history before and after, for any weights of vertices and of edges, kept by recursion on the fuel.
-use mathlib.Core.Path.{_≡_, refl}
+use mathlib.Core.Path.{_≡_}
 use mathlib.Core.Bool.{Bool, true, false}
 use mathlib.Core.List.{List, [], _∷_}
 use Prim.Native.Nat.{ℕ, zero, suc, _+_, _*_}
@@ -10,7 +10,7 @@ use lib.ListN.{length}
 use Rattle.lists.specs.Members.{memb}
 use Rattle.lists.specs.Counts.{sumOf}
 use Rattle.graphs.specs.Graph.{Graph, met}
-use Rattle.graphs.specs.Events.{event, label, advance-tree, advance-nontree, retreat-tree, retreat-nontree, scan, History, _▸_, known, labelled, scanned, traversed, count}
+use Rattle.graphs.specs.Events.{event, label, advance-tree, advance-nontree, retreat-tree, retreat-nontree, History, _▸_, known, labelled, scanned, traversed, count}
 use Rattle.graphs.specs.Search.{recorder, cross, walkEdges, search, depthFirst}
 
 -- The weight of all edges out of some vertices.

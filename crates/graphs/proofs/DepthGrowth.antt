@@ -4,16 +4,16 @@
 use mathlib.Core.Path.{_≡_, refl, sym, ap, _∙_, subst}
 use mathlib.Core.Bool.{Bool, true, false}
 use mathlib.Core.List.{List, [], _∷_, IsSuffix, suffix-refl, suffix-cons, IsSuffix·trans}
-use Prim.Native.Nat.{ℕ, zero, suc, _+_, _≤_, _<_}
+use Prim.Native.Nat.{ℕ, zero, suc, _+_, _≤_}
 use native.Mathlib.Omega.{arith}
 use lib.ListN.{length}
 use Rattle.lists.specs.Members.{Mem, here, there, memb}
 use Rattle.lists.proofs.Members.{mem-nil, each-cons, memb-true, memb-false}
 use Rattle.graphs.specs.Nodes.{Vertex}
 use Rattle.graphs.specs.Graph.{Graph, Closed}
-use Rattle.graphs.specs.Events.{Event, event, label, advance-tree, advance-nontree, retreat-tree, retreat-nontree, scan, History, _▸_, known}
+use Rattle.graphs.specs.Events.{Event, event, label, advance-tree, scan, History, _▸_, known}
 use Rattle.graphs.specs.Search.{recorder, cross, walkEdges, search}
-use Rattle.graphs.proofs.Labels.{Labels, label-ok, labels-full, Grown, Done, grown-refl, grown-trans, grown-label}
+use Rattle.graphs.proofs.Labels.{Labels, label-ok, labels-full, Grown, grown-refl, grown-trans, grown-label}
 
 -- ---- it only adds
 pub suffix-then : {h i : History} (x : Event) → IsSuffix h i → IsSuffix h (i ▸ x)

@@ -1,15 +1,15 @@
 -- Lists of labelled vertices: each a vertex, none twice; and what it means that one such list has grown out of another.
 -- Growth is transitive, and whatever is new in it has all its edges' targets labelled.
-use mathlib.Core.Path.{_≡_, refl, sym, ap, _∙_, subst}
+use mathlib.Core.Path.{_≡_, sym, subst}
 use mathlib.Core.Logic.{_⊎_, inl, inr}
-use mathlib.Core.List.{List, [], _∷_}
-use Prim.Native.Nat.{ℕ, zero, suc, _+_, _≤_, _<_}
+use mathlib.Core.List.{List, _∷_}
+use Prim.Native.Nat.{ℕ, suc, _≤_}
 use native.Mathlib.Omega.{arith}
 use lib.ListN.{length}
-use Rattle.lists.specs.Members.{Mem, here, there, NoDup}
+use Rattle.lists.specs.Members.{Mem, there, NoDup}
 use Rattle.lists.specs.Counts.{countIn}
 use Rattle.lists.proofs.Counts.{count-mem, mem-count, count-once, count-most}
-use Rattle.lists.proofs.Members.{mem-nil, mem-cons, each-cons, pigeonhole}
+use Rattle.lists.proofs.Members.{mem-cons, each-cons, pigeonhole}
 use Rattle.graphs.specs.Nodes.{Vertex}
 use Rattle.graphs.specs.Graph.{Graph, Leads, stays, along, Reached}
 use Rattle.graphs.specs.Claims.{Ready}

@@ -1,6 +1,6 @@
 -- The marks that a search leaves, kept store by store; the tally.
 -- A label's store makes the filled area of one label more; a rank of 0 is an unlabelled vertex.
-use mathlib.Core.Path.{_≡_, refl, sym, ap, _∙_}
+use mathlib.Core.Path.{_≡_, refl, ap, _∙_}
 use mathlib.Core.Bool.{Bool, true, false, not}
 use mathlib.Core.List.{List, [], _∷_}
 use Prim.Native.Nat.{ℕ, suc, _+_, _≤_, _<_}
@@ -8,12 +8,12 @@ use native.Mathlib.Omega.{arith}
 use lib.ListN.{length}
 use lib.Dec.{eqb}
 use Rattle.lists.specs.Members.{Mem, memb, consIf}
-use Rattle.lists.specs.Counts.{bump, rank, sumOf}
+use Rattle.lists.specs.Counts.{bump, rank}
 use Rattle.lists.specs.Words.{at, put, cleared}
 use Rattle.lists.proofs.Counts.{rank-test, rank-none}
 use Rattle.lists.proofs.Words.{put-filled, at-filled, length-filled, clear-filled, cleared-filled}
 use Rattle.graphs.specs.Nodes.{Vertex}
-use Rattle.graphs.specs.Events.{Kind, Event, event, label, advance-tree, advance-nontree, retreat-nontree, retreat-tree, scan, traverse, History, _▸_, labelled, named, same, count, tally}
+use Rattle.graphs.specs.Events.{Kind, event, label, advance-tree, advance-nontree, retreat-nontree, retreat-tree, scan, traverse, History, _▸_, labelled, named, same, count}
 use Rattle.graphs.specs.Results.{marksLeft}
 use Rattle.graphs.specs.Claims.{TallyClaim}
 

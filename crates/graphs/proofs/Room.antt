@@ -1,6 +1,6 @@
 -- The events of either search of a sound profile fit 6 (n + m) words.
 -- A depth-first search has two events for each vertex labelled and each edge met, a breadth-first one no more; met are at most m.
-use mathlib.Core.Path.{_≡_, refl, ap, _∙_}
+use mathlib.Core.Path.{_≡_, refl}
 use mathlib.Core.List.{List, [], _∷_, reverse}
 use Prim.Native.Nat.{ℕ, _+_, _*_, _≤_}
 use native.Mathlib.Omega.{arith}
@@ -13,7 +13,7 @@ use Rattle.graphs.specs.Search.{depthFirst, breadthFirst}
 use Rattle.graphs.specs.Image.{Image, graphOf}
 use Rattle.graphs.specs.Claims.{Ready, RoomClaim}
 use Rattle.graphs.proofs.Labels.{Labels, labels-few, reached-labels}
-use Rattle.graphs.proofs.Sound.{Sound, Profile, profile-sound, graph-closed, met-most}
+use Rattle.graphs.proofs.Sound.{Sound, profile-sound, graph-closed, met-most}
 use Rattle.graphs.proofs.Depth.{depth-first, depth-length}
 use Rattle.graphs.proofs.Breadth.{breadth-first, breadth-length}
 

@@ -2,7 +2,7 @@
 -- Lists whose references are counted once each in all lists are chains that end, share nothing, and have an owner each.
 use mathlib.Core.Path.{_≡_, refl, sym, ap, _∙_, subst}
 use mathlib.Core.Logic.{_⊎_, inl, inr}
-use mathlib.Core.Bool.{Bool, true, false, cond, not}
+use mathlib.Core.Bool.{Bool, true, false, cond}
 use mathlib.Core.List.{List, [], _∷_, _++_}
 use Prim.Native.Nat.{ℕ, zero, suc, _+_, _-_, _≤_, _<_}
 use native.Mathlib.Omega.{arith}
@@ -10,10 +10,10 @@ use lib.ListN.{length, getD, length-append}
 use lib.Dec.{eqb, ltb, leb}
 use borrow.Author.Tests.{eqb-true, ltb-false, le-leb, lt-leb, not-false}
 use Rattle.lists.specs.Members.{Mem, here, there, NoDup, memb}
-use Rattle.lists.specs.Counts.{countIn, sumOf, allTo}
+use Rattle.lists.specs.Counts.{countIn}
 use Rattle.lists.specs.Words.{at}
 use Rattle.lists.proofs.Tests.{neither, Compared, equal, other, compare}
-use Rattle.lists.proofs.Members.{mem-nil, mem-cons, each-cons, mem-append, memb-true, memb-false, append-nodup, pigeonhole}
+use Rattle.lists.proofs.Members.{mem-nil, each-cons, mem-append, memb-true, memb-false, append-nodup, pigeonhole}
 use Rattle.lists.proofs.Counts.{count-append, count-mem, mem-count, count-once, all-at}
 use Rattle.graphs.specs.Nodes.{Vertex, Edge, isVertex, isLink}
 use Rattle.graphs.specs.Graph.{Closed, met}

@@ -1,13 +1,13 @@
 -- The array form (document 01, "Images"): references grouped by the element they leave.
-use mathlib.Core.List.{List, [], _∷_, _++_, map}
+use mathlib.Core.List.{List, map}
 use mathlib.Core.Bool.{Bool, _&&_}
-use Prim.Native.Nat.{ℕ, zero, suc, _+_, _-_}
+use Prim.Native.Nat.{ℕ, suc, _+_, _-_}
 use lib.Dec.{eqb, leb}
 use lib.ListN.{length}
 use Rattle.lists.specs.Counts.{allTo}
 use Rattle.lists.specs.Words.{at, valuesFrom}
 use Rattle.graphs.specs.Graph.{Graph}
-use Rattle.graphs.specs.Image.{Image, edgesOf, to, listsTo}
+use Rattle.graphs.specs.Image.{Image, to, listsTo}
 
 -- n + 1 first positions, and m tails.
 pub record ArrayForm : Type 0 where

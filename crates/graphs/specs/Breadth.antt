@@ -5,7 +5,7 @@ use mathlib.Core.List.{List, [], _∷_, reverse}
 use Prim.Native.Nat.{ℕ}
 use Rattle.lists.specs.Members.{Mem, without}
 use Rattle.graphs.specs.Graph.{Graph}
-use Rattle.graphs.specs.Events.{Event, event, label, scan, traverse, History, _▸_, known, labelled, scanned}
+use Rattle.graphs.specs.Events.{event, label, scan, traverse, History, _▸_, known, labelled, scanned}
 
 -- Traversing edges of v: label the vertex that an edge leads to, if it is not yet labelled.
 pub data Traverses (G : Graph) (before : List ℕ) : ℕ → List ℕ → History → History → Type 0 where

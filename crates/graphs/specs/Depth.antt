@@ -4,7 +4,7 @@ use mathlib.Core.List.{List, [], _∷_}
 use Prim.Native.Nat.{ℕ}
 use Rattle.lists.specs.Members.{Mem}
 use Rattle.graphs.specs.Graph.{Graph}
-use Rattle.graphs.specs.Events.{Event, event, label, advance-tree, advance-nontree, retreat-nontree, retreat-tree, scan, History, _▸_, known}
+use Rattle.graphs.specs.Events.{event, label, advance-tree, advance-nontree, retreat-nontree, retreat-tree, scan, History, _▸_, known}
 
 mutual
   -- Searching u: label u; traverse the edges out of u, in order; scan u.

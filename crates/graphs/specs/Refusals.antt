@@ -6,8 +6,8 @@ use lib.Dec.{eqb, ltb, leb}
 use lib.ListN.{length}
 use Rattle.lists.specs.Counts.{countIn, allTo}
 use Rattle.lists.specs.Words.{at}
-use Rattle.graphs.specs.Nodes.{isVertex, isLink, isNode}
-use Rattle.graphs.specs.Image.{Image, to, listsTo}
+use Rattle.graphs.specs.Nodes.{isVertex, isLink}
+use Rattle.graphs.specs.Image.{Image, listsTo}
 use Rattle.graphs.specs.ArrayForm.{ArrayForm, inOrder}
 
 -- A call is refused with this number where the condition is true.

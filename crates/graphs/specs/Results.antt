@@ -1,5 +1,5 @@
 -- What a search leaves in the areas lent to a walker, as functions of its events (document 01, "Events").
-use mathlib.Core.Bool.{Bool, true, false, cond, _&&_}
+use mathlib.Core.Bool.{Bool, cond, _&&_}
 use mathlib.Core.List.{List, [], _∷_, reverse}
 use Prim.Native.Nat.{ℕ, max}
 use lib.Dec.{eqb}
@@ -7,7 +7,7 @@ use Rattle.lists.specs.Members.{memb}
 use Rattle.lists.specs.Counts.{rank}
 use Rattle.lists.specs.Words.{at, overlay, filled}
 use Rattle.graphs.specs.Graph.{Graph}
-use Rattle.graphs.specs.Events.{Event, event, advance-tree, History, words, same, labelled}
+use Rattle.graphs.specs.Events.{event, advance-tree, History, words, same, labelled}
 
 -- The event area: the events in order; the words past the last event stay.
 abbrev pub eventsLeft : History → List ℕ → List ℕ

@@ -1,18 +1,17 @@
 -- Laws of counts, sums and ranks.
 -- By recursion on the list, with a member taken out of it where two lists are compared.
 use mathlib.Core.Path.{_≡_, refl, sym, ap, _∙_, subst}
-use mathlib.Core.Logic.{_≢_, _⊎_, inl, inr, _↔_}
 use mathlib.Core.Bool.{Bool, true, false, not, cond, _||_}
 use mathlib.Core.List.{List, [], _∷_, _++_}
 use Prim.Native.Nat.{ℕ, zero, suc, _+_, _≤_, _<_}
 use native.Mathlib.Omega.{arith}
 use lib.ListN.{length}
 use lib.Dec.{eqb}
-use borrow.Author.Tests.{eqb-true, eqb-false, eq-eqb, ne-eqb}
-use Rattle.lists.specs.Members.{Mem, here, there, memb, NoDup, Same, consIf, without}
+use borrow.Author.Tests.{eqb-true, eq-eqb, ne-eqb}
+use Rattle.lists.specs.Members.{Mem, here, there, memb, NoDup, Same, without}
 use Rattle.lists.specs.Counts.{bump, countIn, sumOf, rank, allTo}
 use Rattle.lists.proofs.Tests.{both, zero-test, Compared, equal, other, compare}
-use Rattle.lists.proofs.Members.{mem-nil, mem-cons, mem-tail, mem-one, memb-true, memb-false, mem-memb, memb-of-not, without-mem, mem-without, without-nodup, without-none}
+use Rattle.lists.proofs.Members.{mem-nil, mem-tail, mem-one, mem-memb, memb-of-not, without-mem, mem-without, without-nodup, without-none}
 
 pub bump-grow : (b : Bool) (k : ℕ) → k ≤ bump b k
 bump-grow true k = omega arith
