@@ -144,9 +144,9 @@ single-steps w area h = ap (λ (k : ℕ). unless k w area (perform w (single are
 reason-of : {x y : Reason} → ran x ≡ ran y → x ≡ y
 reason-of e = cc
 
-run-tested : (w : Config) (k : ℕ) (area : List ℕ) → Tested k (perform w (runFor k area))
-run-tested w k area = let S = run-stops k w in record { reason = ap ran (S .reason); budget = S .budget; jammed = λ e. S .jammed (reason-of e) }
+run-tested : (w : Config) (k : ℕ) (area : List ℕ) → Tested w k (perform w (runFor k area))
+run-tested w k area = let S = run-stops k w in record { made = S .made; each = S .each; budget = S .budget; reason = ap ran (S .reason); jammed = λ e. S .jammed (reason-of e) }
 
 pub run-tests : RunClaim folded
 unfolding serve
-run-tests w k area h = subst (λ (x : ℕ). Tested k (unless x w area (perform w (runFor k area)))) (sym h) (run-tested w k area)
+run-tests w k area h = subst (λ (x : ℕ). Tested w k (unless x w area (perform w (runFor k area)))) (sym h) (run-tested w k area)

@@ -43,7 +43,7 @@ unless (suc k) w area r = refusing (suc k) w area
 abbrev pub over : Config → Bool
 over w = eqb (w .phase) finished || (eqb (w .phase) rolledBack || eqb (w .phase) accepted)
 
--- 8: a state field is out of kind.
+-- Every state field is in kind; else the number is 8.
 abbrev pub fieldsIn : Config → Bool
 fieldsIn w =
     isVertex (w .n) (w .v)
@@ -68,7 +68,7 @@ stateNumber w areas own =
 abbrev pub workAreas : Config → ℕ → List ℕ → List Lent
 workAreas w k area = lent (w .n + w .m) (w .after) ∷ lent (w .m) (w .tail) ∷ lent (w .n + w .m) (w .marks) ∷ lent k area ∷ []
 
--- The number of a run: 1, 2, 3, 4, 8 by its fields.
+-- The number of a run, which is lent 6 words for each step of its budget: 1, 2, 3, 4, 8.
 abbrev pub runNumber : Config → ℕ → List ℕ → ℕ
 runNumber w k area = stateNumber w (workAreas w (6 * k) area) []
 

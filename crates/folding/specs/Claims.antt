@@ -13,7 +13,7 @@ use Rattle.graphs.specs.Events.{History, advance-nontree, count, words}
 use Rattle.graphs.specs.Depth.{DepthFirst}
 use Rattle.graphs.specs.Results.{marksLeft}
 use Rattle.graphs.specs.Image.{Image, graphOf}
-use Rattle.folding.specs.Machine.{Config, finished, rolledBack, canStep, step}
+use Rattle.folding.specs.Machine.{Config, finished, rolledBack, Stepped, canStep, step}
 use Rattle.folding.specs.Calls.{Reason, ended, spent, stuck, Answer, ran, taken, refused, Reply, refusing, over, fieldsIn, Run, run, Call, runFor, single, areaOf, numberOf, perform, runNumber, stepNumber, openNumber, unopened}
 use Rattle.folding.specs.Lines.{Walker, Line, lineA, lineB}
 
@@ -62,15 +62,23 @@ KeepClaim = (w : Config) → fieldsIn w ≡ true → w .n ≤ length (w .marks) 
 abbrev pub stopReason : ℕ → ℕ → Config → Reason
 stopReason k made w = cond (over w) ended (cond (eqb made k) spent stuck)
 
--- Its reason is that of the tests; it makes at most k steps; it says stuck only where the step to come is out of kind.
-pub record Tested (k : ℕ) (r : Reply) : Type 0 where
-  pub reason : r .answer ≡ ran (stopReason k (r .steps) (r .config))
+-- k steps, one after the other: where they lead, and their events in order.
+abbrev pub stepsFrom : ℕ → Config → Stepped
+stepsFrom zero w = record { config = w; events = [] }
+stepsFrom (suc k) w = record { config = stepsFrom k (step w .config) .config; events = step w .events ++ stepsFrom k (step w .config) .events }
+
+-- A run from w with a budget of k: it makes the steps of the definition, as many as it says and at most k, each one to come and in kind;
+-- its reason is that of the tests; it says stuck only where the step to come is out of kind.
+pub record Tested (w : Config) (k : ℕ) (r : Reply) : Type 0 where
+  pub made : stepsFrom (r .steps) w ≡ record { config = r .config; events = r .events }
+  pub each : (j : ℕ) → j < r .steps → (over (stepsFrom j w .config) ≡ false) × (canStep (stepsFrom j w .config) ≡ true)
   pub budget : r .steps ≤ k
+  pub reason : r .answer ≡ ran (stopReason k (r .steps) (r .config))
   pub jammed : r .answer ≡ ran stuck → canStep (r .config) ≡ false
 
 -- Every run that is not refused.
 abbrev pub RunClaim : Walker → Type 0
-RunClaim W = (w : Config) (k : ℕ) (area : List ℕ) → runNumber w k area ≡ 0 → Tested k (W .serves w (runFor k area))
+RunClaim W = (w : Config) (k : ℕ) (area : List ℕ) → runNumber w k area ≡ 0 → Tested w k (W .serves w (runFor k area))
 
 -- The runs r and then s, as one.
 abbrev pub joined : Run → Run → Run

@@ -241,13 +241,13 @@ breadth-first G before start R =
     let c = counts G before start R in
     record {
       one = λ h. (λ d. one-scans d (l .follows), λ e. subst (BreadthFirst G before start) (sym e) (l .follows));
+      fuel = λ k h. one-scans (ends G before start R k h .follows) (l .follows);
       complete = record {
         labels = exactly G before start (l .keeps);
         scans = subst (Reached G before start) (l .keeps .order) (exactly G before start (l .keeps));
         edges = λ r. omega (arith, c .edges r);
       };
       in-order = sym (l .keeps .order);
-      fuel = λ k h. one-scans (ends G before start R k h .follows) (l .follows);
       traverses = omega (arith, c .traverses);
     }
 

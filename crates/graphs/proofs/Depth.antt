@@ -143,10 +143,10 @@ module _ (G : Graph) (before : List ℕ) (start : ℕ) (R : Ready G before start
       let b = depth-balance G before (λ y. 0) (λ y. 0) start in
       record {
         one = λ h. (λ d. one-search d depth-relates, λ e. subst (DepthFirst G before start) (sym e) depth-relates);
+        fuel = depth-fuel;
         complete = record { labels = depth-reached; scans = depth-scanned; edges = depth-edges };
         advances = omega (arith, b .advances);
         tree-pairs = omega (arith, b .trees);
-        fuel = depth-fuel;
         nontree-pairs = omega (arith, b .nontrees);
       }
 

@@ -33,18 +33,18 @@ pub record Complete (G : Graph) (before : List ℕ) (start : ℕ) (h : History) 
 -- Depth-first: there is one search, the executable one, whatever its fuel, if that is enough; it is complete, and each advance has its retreat.
 pub record DepthClaim (G : Graph) (before : List ℕ) (start : ℕ) : Type 0 where
   pub one : (h : History) → DepthFirst G before start h ↔ (h ≡ depthFirst G before start)
+  pub fuel : (k : ℕ) → G .size ≤ k → search (recorder before) G k start [] ≡ depthFirst G before start
   pub complete : Complete G before start (depthFirst G before start)
   pub advances : count advance-tree (depthFirst G before start) + count advance-nontree (depthFirst G before start) ≡ met G (labelled (depthFirst G before start))
   pub tree-pairs : count advance-tree (depthFirst G before start) ≡ count retreat-tree (depthFirst G before start)
-  pub fuel : (k : ℕ) → G .size ≤ k → search (recorder before) G k start [] ≡ depthFirst G before start
   pub nontree-pairs : count advance-nontree (depthFirst G before start) ≡ count retreat-nontree (depthFirst G before start)
 
 -- Breadth-first: there is one search, the executable one, whatever its fuel, if that is enough; it is complete, and scans in the order of labelling.
 pub record BreadthClaim (G : Graph) (before : List ℕ) (start : ℕ) : Type 0 where
   pub one : (h : History) → BreadthFirst G before start h ↔ (h ≡ breadthFirst G before start)
+  pub fuel : (k : ℕ) → G .size ≤ k → drain (recorder before) G k (start ∷ []) ([] ▸ event label 0 start) ≡ breadthFirst G before start
   pub complete : Complete G before start (breadthFirst G before start)
   pub in-order : scanned (breadthFirst G before start) ≡ labelled (breadthFirst G before start)
-  pub fuel : (k : ℕ) → G .size ≤ k → drain (recorder before) G k (start ∷ []) ([] ▸ event label 0 start) ≡ breadthFirst G before start
   pub traverses : count traverse (breadthFirst G before start) ≡ met G (labelled (breadthFirst G before start))
 
 -- Demand 2, depth-first: of every graph and start.
