@@ -3,7 +3,7 @@
 use mathlib.Core.Path.{_≡_, refl, sym, ap, _∙_, subst}
 use mathlib.Core.Logic.{_≢_}
 use mathlib.Core.Bool.{Bool, true, false, not, _&&_}
-use mathlib.Core.List.{List, [], _∷_}
+use mathlib.Core.List.{List, [], _∷_, _++_}
 use Prim.Native.Nat.{ℕ, zero, suc, _+_, _*_, _≤_}
 use native.Mathlib.Omega.{arith}
 use lib.ListN.{length, drop}
@@ -12,12 +12,12 @@ use Rattle.lists.specs.Words.{overlay, cleared}
 use Rattle.lists.proofs.Words.{length-put, length-cleared, put-past, cleared-past, length-overlay, overlay-past}
 use Rattle.graphs.specs.Events.{Event, event, label, words}
 use Rattle.graphs.specs.Image.{Image}
-use Rattle.graphs.specs.Refusals.{Refusal, refuse, firstOf, Lent, lent, short, verticesOut, edgesOut, vertexOut}
-use Rattle.graphs.proofs.Refusals.{passes, long}
+use Rattle.graphs.specs.Refusals.{Refusal, refuse, firstOf, Lent, lent, short, vertexOut, sizeRefusals}
+use Rattle.graphs.proofs.Refusals.{all-false, long}
 use Rattle.graphs.proofs.Sound.{profile-sound}
 use Rattle.graphs.proofs.Room.{words-length}
 use Rattle.folding.specs.Machine.{Config, rollingBack, canStep, step}
-use Rattle.folding.specs.Calls.{Reason, Answer, ran, taken, refused, Reply, refusing, unless, over, fieldsIn, stateNumber, workAreas, runNumber, stepNumber, inPhase, run, Call, runFor, single, rollBack, areaOf, numberOf, perform, serve, unopened, openNumber, openedAt, openReply, opening}
+use Rattle.folding.specs.Calls.{Reason, Answer, ran, taken, refused, Reply, refusing, unless, fieldsIn, stateNumber, workAreas, runNumber, stepRefusals, stepNumber, inPhase, run, Call, runFor, single, rollBack, areaOf, numberOf, perform, serve, unopened, openNumber, openedAt, openReply, opening}
 use Rattle.folding.specs.Lines.{folded}
 use Rattle.folding.specs.Claims.{Judged, Within, Confined, Demand1, StepClaim, Tested, RunClaim}
 use Rattle.folding.proofs.Fields.{Fields, fields-are}
@@ -57,12 +57,8 @@ record Passed (w : Config) (areas : List Lent) (own : List Refusal) : Type 0 whe
 
 passed : (w : Config) (areas : List Lent) (own : List Refusal) → stateNumber w areas own ≡ 0 → Passed w areas own
 passed w areas own h =
-    let a = passes 1 (verticesOut (w .n)) (refuse 2 (edgesOut (w .m)) ∷ refuse 3 (short areas) ∷ refuse 4 (vertexOut (w .n) (w .start)) ∷ refuse 8 (not (fieldsIn w)) ∷ own) (omega arith) h in
-    let b = passes 2 (edgesOut (w .m)) (refuse 3 (short areas) ∷ refuse 4 (vertexOut (w .n) (w .start)) ∷ refuse 8 (not (fieldsIn w)) ∷ own) (omega arith) (a .1) in
-    let c = passes 3 (short areas) (refuse 4 (vertexOut (w .n) (w .start)) ∷ refuse 8 (not (fieldsIn w)) ∷ own) (omega arith) (b .1) in
-    let d = passes 4 (vertexOut (w .n) (w .start)) (refuse 8 (not (fieldsIn w)) ∷ own) (omega arith) (c .1) in
-    let e = passes 8 (not (fieldsIn w)) own (omega arith) (d .1) in
-    record { areas-long = c .0; fields = fields-are w (not-false (fieldsIn w) (e .0)); own-false = e .1 }
+    let a = all-false (sizeRefusals (w .n) (w .m) areas ++ refuse 4 (vertexOut (w .n) (w .start)) ∷ refuse 8 (not (fieldsIn w)) ∷ []) own (omega arith) h in
+    record { areas-long = a .0 .1 .1 .0; fields = fields-are w (not-false (fieldsIn w) (a .0 .1 .1 .1 .1 .0)); own-false = a .1 }
 
 -- The mark area and the event area are long enough.
 record Lengths (w : Config) (k : ℕ) (area : List ℕ) : Type 0 where
@@ -84,15 +80,14 @@ run-confined w k area h =
     confined w area (ran (run k w .reason)) (run k w .steps) (run k w .events) (run k w .config) (R .within) (omega (arith, words-length (run k w .events), R .few, run-stops k w .budget, Z .area-long))
 
 -- A step that is not refused fits: there is one to come, and its words are in kind.
-fits-of : (w : Config) → firstOf (refuse 8 (not (over w) && not (canStep w)) ∷ refuse 9 (over w) ∷ []) ≡ 0 → canStep w ≡ true
+fits-of : (w : Config) → firstOf (stepRefusals w) ≡ 0 → canStep w ≡ true
 fits-of w h =
-    let a = passes 8 (not (over w) && not (canStep w)) (refuse 9 (over w) ∷ []) (omega arith) h in
-    let b = passes 9 (over w) [] (omega arith) (a .1) in
-    not-false (canStep w) (sym (ap (λ (x : Bool). not x && not (canStep w)) (b .0)) ∙ a .0)
+    let a = all-false (stepRefusals w) [] (omega arith) h in
+    not-false (canStep w) (sym (ap (λ (x : Bool). not x && not (canStep w)) (a .0 .1 .0)) ∙ a .0 .0)
 
 single-confined : (w : Config) (area : List ℕ) → stepNumber w area ≡ 0 → Confined w area (perform w (single area))
 single-confined w area h =
-    let P = passed w (workAreas w 6 area) (refuse 8 (not (over w) && not (canStep w)) ∷ refuse 9 (over w) ∷ []) h in
+    let P = passed w (workAreas w 6 area) (stepRefusals w) h in
     let Z = lengths w 6 area (P .areas-long) in
     let K : Kept w (step w) = step-kept w (P .fields) (omega (arith, Z .marks-long)) (fits-of w (P .own-false)) in
     confined w area taken 1 (step w .events) (step w .config) (K .within) (omega (arith, words-length (step w .events), K .few, Z .area-long))

@@ -26,7 +26,7 @@ use Rattle.graphs.proofs.Sound.{Sound, graph-closed}
 use Rattle.graphs.proofs.DepthGrowth.{search-unroll}
 use Rattle.graphs.proofs.Results.{marks-first, marks-length}
 use Rattle.folding.specs.Machine.{Config, walking, restoring, finished, rollingBack, rolledBack, canStep, step}
-use Rattle.folding.specs.Calls.{Reason, ended, spent, stuck, Answer, ran, refused, refusing, unless, over, fieldsIn, stateNumber, workAreas, inPhase, run, Call, runFor, single, rollBack, areaOf, numberOf, perform, serve, openedAt}
+use Rattle.folding.specs.Calls.{Reason, ended, spent, stuck, Answer, ran, refused, refusing, unless, over, fieldsIn, stateNumber, workAreas, stepRefusals, inPhase, run, Call, runFor, single, rollBack, areaOf, numberOf, perform, serve, openedAt}
 use Rattle.folding.specs.Lines.{Line, orders, addIf, noted, calls, folded}
 use Rattle.folding.specs.Claims.{flag, Faultless}
 use Rattle.folding.proofs.Bent.{Frame, parent, bentAfter, configAt, configEnd}
@@ -35,7 +35,7 @@ use Rattle.folding.proofs.Steps.{link-rest, node-top}
 use Rattle.folding.proofs.Future.{allOf, finishing, Short, short, in-order}
 use Rattle.folding.proofs.Invariant.{Trace, tick, Scene, Closed, Holds, at-walking, at-restoring, at-rolling, at-end, at-undone, Moves, move}
 use Rattle.folding.proofs.Fields.{fields-yes}
-use Rattle.folding.proofs.Running.{Calm, calm-more, Free, Ran, run-holds}
+use Rattle.folding.proofs.Running.{since-none, Calm, calm-more, Free, Ran, run-holds}
 
 flag-bit : (k : ℕ) → flag k ≤ 1
 flag-bit zero = omega arith
@@ -130,12 +130,8 @@ module _ (g : Image) (S : Sound g) (start : ℕ) (hs : Vertex (g .n) start) (are
     faultless = (ne, H .faultless);
   }
     where
-      since-same : (b : Bool) (a : ℕ) → (b ≡ false → a ≡ 0) → addIf b a 0 ≡ a
-      since-same true a h = add-zero a
-      since-same false a h = sym (h refl)
-
       same : traceOf (noted l c (refusing k (l .config) room)) (H .history) ≡ traceOf l (H .history)
-      same = λ i. record { config = l .config; history = H .history; steps = add-zero (l .steps) i; rolling = (ap (λ (b : Bool). l .rolling || b) o ∙ or-none (l .rolling)) i; since = since-same (l .rolling) (l .since) (H .calm) i }
+      same = λ i. record { config = l .config; history = H .history; steps = add-zero (l .steps) i; rolling = (ap (λ (b : Bool). l .rolling || b) o ∙ or-none (l .rolling)) i; since = since-none (l .rolling) (l .since) (H .calm) i }
 
   -- ---- a run
   free-faultless : (why : Reason) (rest : List Answer) → Free why → Faultless rest → Faultless (ran why ∷ rest)
@@ -217,16 +213,16 @@ module _ (g : Image) (S : Sound g) (start : ℕ) (hs : Vertex (g .n) start) (are
   run-called l k room H false e = by-number l (runFor k room) 0 (work-number (l .config) (6 * k) room [] false (sized (traceOf l (H .history)) (H .holds)) e) (run-held l k room H)
 
   single-called : (l : Line) (room : List ℕ) → Held l → (b o : Bool) → ltb (length room) 6 ≡ b → over (l .config) ≡ o → Held (noted l (single room) (serve (l .config) (single room)))
-  single-called l room H true o e f = by-number l (single room) 3 (work-number (l .config) 6 room (refuse 8 (not (over (l .config)) && not (canStep (l .config))) ∷ refuse 9 (over (l .config)) ∷ []) true (sized (traceOf l (H .history)) (H .holds)) e) (refused-held l (single room) 3 room (eqb-false 3 8 refl) refl H)
+  single-called l room H true o e f = by-number l (single room) 3 (work-number (l .config) 6 room (stepRefusals (l .config)) true (sized (traceOf l (H .history)) (H .holds)) e) (refused-held l (single room) 3 room (eqb-false 3 8 refl) refl H)
   single-called l room H false true e f =
       by-number l (single room) 9
-      (work-number (l .config) 6 room (refuse 8 (not (over (l .config)) && not (canStep (l .config))) ∷ refuse 9 (over (l .config)) ∷ []) false (sized (traceOf l (H .history)) (H .holds)) e
+      (work-number (l .config) 6 room (stepRefusals (l .config)) false (sized (traceOf l (H .history)) (H .holds)) e
       ∙ (λ i. firstOf (refuse 8 (not (f i) && not (canStep (l .config))) ∷ refuse 9 (f i) ∷ [])))
       (refused-held l (single room) 9 room (eqb-false 9 8 refl) refl H)
   single-called l room H false false e f =
       let M : Moves g start area (traceOf l (H .history)) = move g start area S (traceOf l (H .history)) (H .holds) f in
       by-number l (single room) 0
-      (work-number (l .config) 6 room (refuse 8 (not (over (l .config)) && not (canStep (l .config))) ∷ refuse 9 (over (l .config)) ∷ []) false (sized (traceOf l (H .history)) (H .holds)) e
+      (work-number (l .config) 6 room (stepRefusals (l .config)) false (sized (traceOf l (H .history)) (H .holds)) e
       ∙ (λ i. firstOf (refuse 8 (not (f i) && not (M .goes .can i)) ∷ refuse 9 (f i) ∷ [])))
       (step-held l room H M)
 

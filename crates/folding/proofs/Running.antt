@@ -21,7 +21,7 @@ advance t r = record { config = r .config; history = reverseAux (r .events) (t .
 abbrev pub Calm : Trace → Type 0
 Calm t = t .rolling ≡ false → t .since ≡ 0
 
-since-none : (b : Bool) (a : ℕ) → (b ≡ false → a ≡ 0) → addIf b a 0 ≡ a
+pub since-none : (b : Bool) (a : ℕ) → (b ≡ false → a ≡ 0) → addIf b a 0 ≡ a
 since-none true a h = add-zero a
 since-none false a h = sym (h refl)
 

@@ -8,7 +8,7 @@ use Rattle.lists.specs.Words.{at, put, overlay, cleared}
 use Rattle.graphs.specs.Nodes.{isVertex, isLink, isNode}
 use Rattle.graphs.specs.Events.{Event, event, label, words}
 use Rattle.graphs.specs.Image.{Image}
-use Rattle.graphs.specs.Refusals.{Refusal, refuse, firstOf, Lent, lent, short, verticesOut, edgesOut, vertexOut, figureOut, searchNumber}
+use Rattle.graphs.specs.Refusals.{Refusal, refuse, firstOf, Lent, lent, sizeRefusals, vertexOut, figureOut, searchNumber}
 use Rattle.folding.specs.Machine.{Config, walking, restoring, finished, rollingBack, rolledBack, accepted, canStep, step}
 
 -- Why a run stops.
@@ -55,14 +55,7 @@ fieldsIn w =
 
 -- The order of a call with a state: 1, 2, 3, 4, 8, and then its own.
 abbrev pub stateNumber : Config → List Lent → List Refusal → ℕ
-stateNumber w areas own =
-    firstOf
-    (refuse 1 (verticesOut (w .n))
-    ∷ refuse 2 (edgesOut (w .m))
-    ∷ refuse 3 (short areas)
-    ∷ refuse 4 (vertexOut (w .n) (w .start))
-    ∷ refuse 8 (not (fieldsIn w))
-    ∷ own)
+stateNumber w areas own = firstOf (sizeRefusals (w .n) (w .m) areas ++ refuse 4 (vertexOut (w .n) (w .start)) ∷ refuse 8 (not (fieldsIn w)) ∷ own)
 
 -- The links and marks that a run or a single step is lent, with an area for events.
 abbrev pub workAreas : Config → ℕ → List ℕ → List Lent
@@ -72,9 +65,13 @@ workAreas w k area = lent (w .n + w .m) (w .after) ∷ lent (w .m) (w .tail) ∷
 abbrev pub runNumber : Config → ℕ → List ℕ → ℕ
 runNumber w k area = stateNumber w (workAreas w (6 * k) area) []
 
--- The number of a single step: also 8 where a word that it reads is out of kind, and 9 where there is none to come.
+-- A single step's own: 8 where a word that it reads is out of kind, 9 where there is none to come.
+abbrev pub stepRefusals : Config → List Refusal
+stepRefusals w = refuse 8 (not (over w) && not (canStep w)) ∷ refuse 9 (over w) ∷ []
+
+-- The number of a single step, which is lent 6 words.
 abbrev pub stepNumber : Config → List ℕ → ℕ
-stepNumber w area = stateNumber w (workAreas w 6 area) (refuse 8 (not (over w) && not (canStep w)) ∷ refuse 9 (over w) ∷ [])
+stepNumber w area = stateNumber w (workAreas w 6 area) (stepRefusals w)
 
 -- The number of a roll-back order (winding order): it is lent no areas; 9 where there is no step to come.
 abbrev pub rollBackNumber : Config → ℕ

@@ -2,7 +2,7 @@
 -- The number of a list of conditions is 0 only where the first is false and the number of the others is 0.
 use mathlib.Core.Path.{_≡_, refl}
 use mathlib.Core.Bool.{Bool, true, false}
-use mathlib.Core.List.{List, _∷_}
+use mathlib.Core.List.{List, [], _∷_, _++_}
 use Prim.Native.Nat.{ℕ, _≤_, _<_}
 use native.Mathlib.Omega.{arith}
 use lib.ListN.{length}
@@ -11,9 +11,26 @@ use borrow.Author.Tests.{ltb-false}
 use Rattle.lists.proofs.Tests.{neither}
 use Rattle.graphs.specs.Refusals.{Refusal, refuse, firstOf, Lent, lent, short}
 
-pub passes : (k : ℕ) (b : Bool) (cs : List Refusal) → 0 < k → firstOf (refuse k b ∷ cs) ≡ 0 → (b ≡ false) × (firstOf cs ≡ 0)
+-- No number is 0.
+abbrev pub Numbered : List Refusal → Type 0
+Numbered [] = Unit {0}
+Numbered (refuse k b ∷ cs) = (0 < k) × Numbered cs
+
+abbrev pub AllFalse : List Refusal → Type 0
+AllFalse [] = Unit {0}
+AllFalse (refuse k b ∷ cs) = (b ≡ false) × AllFalse cs
+
+passes : (k : ℕ) (b : Bool) (cs : List Refusal) → 0 < k → firstOf (refuse k b ∷ cs) ≡ 0 → (b ≡ false) × (firstOf cs ≡ 0)
 passes k true cs h e = absurd (let z : k ≡ 0 = e in omega arith)
 passes k false cs h e = (refl, e)
+
+-- A call that is not refused by its first conditions nor by its own.
+pub all-false : (cs own : List Refusal) → Numbered cs → firstOf (cs ++ own) ≡ 0 → AllFalse cs × (firstOf own ≡ 0)
+all-false [] own n e = (tt, e)
+all-false (refuse k b ∷ cs) own n e =
+    let p = passes k b (cs ++ own) (n .0) e in
+    let q = all-false cs own (n .1) (p .1) in
+    ((p .0, q .0), q .1)
 
 pub long : (stated : ℕ) (area : List ℕ) (others : List Lent) → short (lent stated area ∷ others) ≡ false → (stated ≤ length area) × (short others ≡ false)
 long stated area others e = let z = neither (ltb (length area) stated) (short others) e in (ltb-false (length area) stated (z .0), z .1)

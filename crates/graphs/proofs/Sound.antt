@@ -18,10 +18,10 @@ use Rattle.lists.proofs.Counts.{count-append, count-mem, mem-count, count-once,
 use Rattle.graphs.specs.Nodes.{Vertex, Edge, isVertex, isLink}
 use Rattle.graphs.specs.Graph.{Closed, met}
 use Rattle.graphs.specs.Image.{Image, chain, lookedFor, edgesOf, to, graphOf, listsTo}
-use Rattle.graphs.specs.Refusals.{refuse, firstOf, Lent, lent, short, verticesOut, edgesOut, vertexOut, afterOut, tailOut, listOut, imageAreas, imageRefusals, imageNumber, searchNumber}
+use Rattle.graphs.specs.Refusals.{Refusal, refuse, firstOf, Lent, lent, short, verticesOut, edgesOut, vertexOut, sizeRefusals, imageAreas, imageRefusals, imageNumber, searchNumber}
 use Rattle.graphs.proofs.Nodes.{vertex-is, link-not-null}
 use Rattle.graphs.proofs.Labels.{Labels}
-use Rattle.graphs.proofs.Refusals.{passes, long}
+use Rattle.graphs.proofs.Refusals.{AllFalse, all-false, long}
 
 abbrev pub head0 : List ℕ → ℕ
 head0 [] = 0
@@ -138,7 +138,7 @@ module _ (g : Image) where
         own-edge = owns;
         listed = λ r e. listed r (lists-member r (g .n) (mem-count r (listsTo g (g .n)) (let c = counted r e in omega arith)));
         edge = edges;
-        target = λ r e. vertex-is (g .n) (to g r) (subst (λ (x : ℕ). isVertex (g .n) x ≡ true) (place r e) (all-at (λ k. isVertex (g .n) (at 0 (g .tail) k)) (g .m) (not-false _ (h6 .0)) (r - g .n) (let z = e in omega arith) (let z = e in omega arith)));
+        target = λ r e. vertex-is (g .n) (to g r) (subst (λ (x : ℕ). isVertex (g .n) x ≡ true) (place r e) (all-at (λ k. isVertex (g .n) (at 0 (g .tail) k)) (g .m) (not-false _ (tests .1 .0)) (r - g .n) (let z = e in omega arith) (let z = e in omega arith)));
         once = nodup;
         first = λ u hu. links u hu .0;
         linked = λ u hu. links u hu .1;
@@ -146,17 +146,11 @@ module _ (g : Image) where
         long-tail = lt;
       }
     where
-      h5 : (afterOut g ≡ false) × (firstOf (refuse 6 (tailOut (g .n) (g .m) (g .tail)) ∷ refuse 7 (listOut g) ∷ []) ≡ 0)
-      h5 = passes 5 (afterOut g) (refuse 6 (tailOut (g .n) (g .m) (g .tail)) ∷ refuse 7 (listOut g) ∷ []) (omega arith) h
-
-      h6 : (tailOut (g .n) (g .m) (g .tail) ≡ false) × (firstOf (refuse 7 (listOut g) ∷ []) ≡ 0)
-      h6 = passes 6 (tailOut (g .n) (g .m) (g .tail)) (refuse 7 (listOut g) ∷ []) (omega arith) (h5 .1)
-
-      h7 : (listOut g ≡ false) × (firstOf [] ≡ 0)
-      h7 = passes 7 (listOut g) [] (omega arith) (h6 .1)
+      tests : AllFalse (imageRefusals g)
+      tests = all-false (imageRefusals g) [] (omega arith) h .0
 
       links-in : (x : ℕ) → 0 < x → x ≤ g .n + g .m → isLink (g .n) (g .m) (at 0 (g .after) x) ≡ true
-      links-in = all-at (λ x. isLink (g .n) (g .m) (at 0 (g .after) x)) (g .n + g .m) (not-false _ (h5 .0))
+      links-in = all-at (λ x. isLink (g .n) (g .m) (at 0 (g .after) x)) (g .n + g .m) (not-false _ (tests .0))
 
       edges : (u r : ℕ) → Vertex (g .n) u → Mem r (edgesOf g u) → Edge (g .n) (g .m) r
       edges = edges-in links-in
@@ -167,7 +161,7 @@ module _ (g : Image) where
       counted : (r : ℕ) → Edge (g .n) (g .m) r → countIn r (listsTo g (g .n)) ≡ 1
       counted r e =
           let back : g .n + (r - g .n) ≡ r = omega arith in
-          subst (λ (x : ℕ). countIn x (listsTo g (g .n)) ≡ 1) back (eqb-true (countIn (g .n + (r - g .n)) (listsTo g (g .n))) 1 (all-at (λ k. eqb (countIn (g .n + k) (listsTo g (g .n))) 1) (g .m) (not-false _ (h7 .0)) (r - g .n) (let z = e in omega arith) (let z = e in omega arith)))
+          subst (λ (x : ℕ). countIn x (listsTo g (g .n)) ≡ 1) back (eqb-true (countIn (g .n + (r - g .n)) (listsTo g (g .n))) 1 (all-at (λ k. eqb (countIn (g .n + k) (listsTo g (g .n))) 1) (g .m) (not-false _ (tests .1 .1 .0)) (r - g .n) (let z = e in omega arith) (let z = e in omega arith)))
 
       nodup : (u : ℕ) → Vertex (g .n) u → NoDup (edgesOf g u)
       nodup u hu = count-once (edgesOf g u) (λ r m. (let a = counted r (edges u r hu m) in let b = lists-one r (g .n) u (hu .0) (hu .1) in omega arith))
@@ -191,14 +185,21 @@ module _ (g : Image) where
       links u hu = list-linked u (pigeonhole (g .n) (g .m) (edgesOf g u) (nodup u hu) (λ r m. edges u r hu m))
 
 -- An image that is not refused is sound, and what is lent besides is long enough.
+module _ (g : Image) (areas : List Lent) (own : List Refusal) (h : firstOf (sizeRefusals (g .n) (g .m) (imageAreas g ++ areas) ++ own) ≡ 0) where
+  sizes : AllFalse (sizeRefusals (g .n) (g .m) (imageAreas g ++ areas)) × (firstOf own ≡ 0)
+  sizes = all-false (sizeRefusals (g .n) (g .m) (imageAreas g ++ areas)) own (omega arith) h
+
+  after-long : (g .n + g .m ≤ length (g .after)) × (short (lent (g .m) (g .tail) ∷ areas) ≡ false)
+  after-long = long (g .n + g .m) (g .after) (lent (g .m) (g .tail) ∷ areas) (sizes .0 .1 .1 .0)
+
+  tail-long : (g .m ≤ length (g .tail)) × (short areas ≡ false)
+  tail-long = long (g .m) (g .tail) areas (after-long .1)
+
+  sized-sound : firstOf (imageRefusals g) ≡ 0 → Sound g
+  sized-sound = sound-of g (sizes .0 .0) (sizes .0 .1 .0) (after-long .0) (tail-long .0)
+
 pub image-sound : (g : Image) (areas : List Lent) → imageNumber g areas ≡ 0 → Sound g × (short areas ≡ false)
-image-sound g areas h =
-    let a = passes 1 (verticesOut (g .n)) (refuse 2 (edgesOut (g .m)) ∷ refuse 3 (short (imageAreas g ++ areas)) ∷ imageRefusals g) (omega arith) h in
-    let b = passes 2 (edgesOut (g .m)) (refuse 3 (short (imageAreas g ++ areas)) ∷ imageRefusals g) (omega arith) (a .1) in
-    let c = passes 3 (short (imageAreas g ++ areas)) (imageRefusals g) (omega arith) (b .1) in
-    let x = long (g .n + g .m) (g .after) (lent (g .m) (g .tail) ∷ areas) (c .0) in
-    let y = long (g .m) (g .tail) areas (x .1) in
-    (sound-of g (a .0) (b .0) (x .0) (y .0) (c .1), y .1)
+image-sound g areas h = (sized-sound g areas (imageRefusals g) h (sizes g areas (imageRefusals g) h .1), tail-long g areas (imageRefusals g) h .1)
 
 -- A profile that is not refused: a sound image, a start in it, areas long enough.
 pub record Profile (g : Image) (start : ℕ) (areas : List Lent) : Type 0 where
@@ -208,13 +209,9 @@ pub record Profile (g : Image) (start : ℕ) (areas : List Lent) : Type 0 where
 
 pub profile-sound : (g : Image) (start : ℕ) (areas : List Lent) → searchNumber g start areas ≡ 0 → Profile g start areas
 profile-sound g start areas h =
-    let a = passes 1 (verticesOut (g .n)) (refuse 2 (edgesOut (g .m)) ∷ refuse 3 (short (imageAreas g ++ areas)) ∷ refuse 4 (vertexOut (g .n) start) ∷ imageRefusals g) (omega arith) h in
-    let b = passes 2 (edgesOut (g .m)) (refuse 3 (short (imageAreas g ++ areas)) ∷ refuse 4 (vertexOut (g .n) start) ∷ imageRefusals g) (omega arith) (a .1) in
-    let c = passes 3 (short (imageAreas g ++ areas)) (refuse 4 (vertexOut (g .n) start) ∷ imageRefusals g) (omega arith) (b .1) in
-    let d = passes 4 (vertexOut (g .n) start) (imageRefusals g) (omega arith) (c .1) in
-    let x = long (g .n + g .m) (g .after) (lent (g .m) (g .tail) ∷ areas) (c .0) in
-    let y = long (g .m) (g .tail) areas (x .1) in
-    record { sound = sound-of g (a .0) (b .0) (x .0) (y .0) (d .1); start-vertex = vertex-is (g .n) start (not-false _ (d .0)); areas-long = y .1 }
+    let own = refuse 4 (vertexOut (g .n) start) ∷ imageRefusals g in
+    let z = all-false (refuse 4 (vertexOut (g .n) start) ∷ []) (imageRefusals g) (omega arith) (sizes g areas own h .1) in
+    record { sound = sized-sound g areas own h (z .1); start-vertex = vertex-is (g .n) start (not-false _ (z .0 .0)); areas-long = tail-long g areas own h .1 }
 
 -- ---- the graph of a sound image
 module _ (g : Image) (S : Sound g) where

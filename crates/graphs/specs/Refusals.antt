@@ -65,6 +65,10 @@ abbrev pub textOut : ℕ → Bool
 textOut bytes = ltb 65536 bytes
 
 -- ---- the order of each call
+-- What every call with an image or a state meets first.
+abbrev pub sizeRefusals : ℕ → ℕ → List Lent → List Refusal
+sizeRefusals n m areas = refuse 1 (verticesOut n) ∷ refuse 2 (edgesOut m) ∷ refuse 3 (short areas) ∷ []
+
 -- The areas of an image: n + m after words and m tail words.
 abbrev pub imageAreas : Image → List Lent
 imageAreas g = lent (g .n + g .m) (g .after) ∷ lent (g .m) (g .tail) ∷ []
@@ -73,25 +77,21 @@ imageAreas g = lent (g .n + g .m) (g .after) ∷ lent (g .m) (g .tail) ∷ []
 abbrev pub imageRefusals : Image → List Refusal
 imageRefusals g = refuse 5 (afterOut g) ∷ refuse 6 (tailOut (g .n) (g .m) (g .tail)) ∷ refuse 7 (listOut g) ∷ []
 
--- A checker or converter of a linked image; `areas` are those lent besides the image.
+-- The number of a checker or converter of a linked image; `areas` are those lent besides the image.
 abbrev pub imageNumber : Image → List Lent → ℕ
-imageNumber g areas = firstOf (refuse 1 (verticesOut (g .n)) ∷ refuse 2 (edgesOut (g .m)) ∷ refuse 3 (short (imageAreas g ++ areas)) ∷ imageRefusals g)
+imageNumber g areas = firstOf (sizeRefusals (g .n) (g .m) (imageAreas g ++ areas) ++ imageRefusals g)
 
--- A search of a linked image, or the opening of one.
+-- The number of a search of a linked image, or of the opening of one.
 abbrev pub searchNumber : Image → ℕ → List Lent → ℕ
-searchNumber g start areas = firstOf (refuse 1 (verticesOut (g .n)) ∷ refuse 2 (edgesOut (g .m)) ∷ refuse 3 (short (imageAreas g ++ areas)) ∷ refuse 4 (vertexOut (g .n) start) ∷ imageRefusals g)
+searchNumber g start areas = firstOf (sizeRefusals (g .n) (g .m) (imageAreas g ++ areas) ++ refuse 4 (vertexOut (g .n) start) ∷ imageRefusals g)
 
--- A search of an array form from a vertex, or a query of one.
+-- The areas of an array form: n + 1 first positions and m tails.
+abbrev pub arrayAreas : ArrayForm → List Lent
+arrayAreas a = lent (a .n + 1) (a .firsts) ∷ lent (a .m) (a .tails) ∷ []
+
+-- The number of a search of an array form from an element, or of a query of one.
 abbrev pub arrayNumber : ArrayForm → ℕ → List Lent → ℕ
-arrayNumber a x areas =
-    firstOf
-    (refuse 1 (verticesOut (a .n))
-    ∷ refuse 2 (edgesOut (a .m))
-    ∷ refuse 3 (short (lent (a .n + 1) (a .firsts) ∷ lent (a .m) (a .tails) ∷ areas))
-    ∷ refuse 4 (vertexOut (a .n) x)
-    ∷ refuse 5 (firstOut a)
-    ∷ refuse 6 (tailOut (a .n) (a .m) (a .tails))
-    ∷ [])
+arrayNumber a x areas = firstOf (sizeRefusals (a .n) (a .m) (arrayAreas a ++ areas) ++ refuse 4 (vertexOut (a .n) x) ∷ refuse 5 (firstOut a) ∷ refuse 6 (tailOut (a .n) (a .m) (a .tails)) ∷ [])
 
 -- The areas of a whole run of k nodes: marks, and two events of three words for each node.
 abbrev pub runAreas : ℕ → List ℕ → List ℕ → List Lent
