@@ -46,12 +46,8 @@ over w = eqb (w .phase) finished || (eqb (w .phase) rolledBack || eqb (w .phase)
 -- Every state field is in kind; else the number is 8.
 abbrev pub fieldsIn : Config → Bool
 fieldsIn w =
-    isVertex (w .n) (w .v)
-    && (isLink (w .n) (w .m) (w .e)
-    && (isNode (w .n) (w .m) (w .f)
-    && ((ltb 0 (w .phase) && leb (w .phase) 6)
-    && ((leb 2 (w .next) && leb (w .next) (suc (w .n)))
-    && leb (w .circular) 1))))
+    isVertex (w .n) (w .v) && (isLink (w .n) (w .m) (w .e) && (isNode (w .n) (w .m) (w .f)
+    && ((ltb 0 (w .phase) && leb (w .phase) 6) && ((leb 2 (w .next) && leb (w .next) (suc (w .n))) && leb (w .circular) 1))))
 
 -- The order of a call with a state: 1, 2, 3, 4, 8, and then its own.
 abbrev pub stateNumber : Config → List Lent → List Refusal → ℕ
@@ -80,11 +76,7 @@ rollBackNumber w = stateNumber w [] (refuse 9 (over w) ∷ [])
 -- The number of accepting a state, with the panel's figure: 9 in phase 5 or 6, 10 in phase 1, 2 or 4, then 11.
 abbrev pub acceptNumber : Config → ℕ → ℕ
 acceptNumber w figure =
-    stateNumber w []
-    (refuse 9 (eqb (w .phase) rolledBack || eqb (w .phase) accepted)
-    ∷ refuse 10 (eqb (w .phase) walking || (eqb (w .phase) restoring || eqb (w .phase) rollingBack))
-    ∷ refuse 11 (figureOut figure)
-    ∷ [])
+    stateNumber w [] (refuse 9 (eqb (w .phase) rolledBack || eqb (w .phase) accepted) ∷ refuse 10 (eqb (w .phase) walking || (eqb (w .phase) restoring || eqb (w .phase) rollingBack)) ∷ refuse 11 (figureOut figure) ∷ [])
 
 -- ---- what the calls do
 -- The same state in another phase: 4 by a roll-back order, 6 by accepting.

@@ -1,7 +1,7 @@
 -- The conditions of document 01's table "Turned back" that need no state, and the order in which a call meets them.
 use mathlib.Core.Bool.{Bool, false, cond, not, _||_}
 use mathlib.Core.List.{List, [], _∷_, _++_}
-use Prim.Native.Nat.{ℕ, _+_, _*_}
+use Prim.Native.Nat.{ℕ, _+_}
 use lib.Dec.{eqb, ltb, leb}
 use lib.ListN.{length}
 use Rattle.lists.specs.Counts.{countIn, allTo}
@@ -92,7 +92,3 @@ arrayAreas a = lent (a .n + 1) (a .firsts) ∷ lent (a .m) (a .tails) ∷ []
 -- The number of a search of an array form from an element, or of a query of one.
 abbrev pub arrayNumber : ArrayForm → ℕ → List Lent → ℕ
 arrayNumber a x areas = firstOf (sizeRefusals (a .n) (a .m) (arrayAreas a ++ areas) ++ refuse 4 (vertexOut (a .n) x) ∷ refuse 5 (firstOut a) ∷ refuse 6 (tailOut (a .n) (a .m) (a .tails)) ∷ [])
-
--- The areas of a whole run of k nodes: marks, and two events of three words for each node.
-abbrev pub runAreas : ℕ → List ℕ → List ℕ → List Lent
-runAreas k marks events = lent k marks ∷ lent (6 * k) events ∷ []
