@@ -9,7 +9,7 @@ use native.Mathlib.Omega.{arith}
 use lib.ListN.{length, length-append, length-reverseAux}
 use Rattle.lists.specs.Members.{Mem, here, there, memb, NoDup, without}
 use Rattle.lists.specs.Counts.{countIn, sumOf}
-use Rattle.lists.proofs.Members.{mem-nil, each-cons, memb-true, memb-false, mem-left, mem-right, mem-append, mem-rest, mem-reverse, split, nodup-left, without-none, without-all, without-append}
+use Rattle.lists.proofs.Members.{mem-nil, each-cons, memb-true, memb-false, mem-left, mem-right, mem-rest, mem-reverse, split, nodup-left, without-none, without-all, without-append}
 use Rattle.lists.proofs.Counts.{count-append}
 use Rattle.graphs.specs.Nodes.{Vertex}
 use Rattle.graphs.specs.Graph.{Graph, Closed, Leads, stays, along, Reached, met}
@@ -17,7 +17,7 @@ use Rattle.graphs.specs.Events.{event, label, scan, traverse, History, _
 use Rattle.graphs.specs.Breadth.{Traverses, none, labels, passes, Scans, done, next, BreadthFirst}
 use Rattle.graphs.specs.Search.{recorder, Front, arrive, traverseAll, drain, breadthFirst}
 use Rattle.graphs.specs.Claims.{Ready, BreadthFirstClaim}
-use Rattle.graphs.proofs.Labels.{Labels, label-ok, labels-few, Done}
+use Rattle.graphs.proofs.Labels.{Labels, label-ok, labels-few, Done, reached-exactly}
 
 -- ---- one outcome
 module _ {G : Graph} {before : List ℕ} where
@@ -198,16 +198,8 @@ module _ (G : Graph) (before : List ℕ) (start : ℕ) where
       record { follows = next (waits K) (t .follows) (d .follows); keeps = d .keeps }
 
   -- ---- all that a path leads to
-  all-labelled : {us ls : List ℕ} → Kept us [] [] ls → {x : ℕ} → Leads G before start x → Mem x ls
-  all-labelled {us} {ls} K (stays e) = subst (λ (y : ℕ). Mem y ls) (sym e) (K .starts)
-  all-labelled {us} {ls} K (along {v} {x} r l m e off) = go (mem-append ls before (subst (λ (y : ℕ). Mem y (ls ++ before)) e (all-done K v (subst (Mem v) (K .order) (all-labelled K l)) r m)))
-    where
-      go : Mem x ls ⊎ Mem x before → Mem x ls
-      go (inl k) = k
-      go (inr k) = absurd (off k)
-
   exactly : {us ls : List ℕ} → Kept us [] [] ls → Reached G before start ls
-  exactly {us} {ls} K = record { once = nodup-left ls before (K .vertices .once); exact = λ x. (K .reached x, all-labelled K) }
+  exactly {us} {ls} K = reached-exactly G before start ls (K .starts) (λ x m. all-done K x (subst (Mem x) (K .order) m)) (nodup-left ls before (K .vertices .once)) (K .reached)
 
 -- ---- the claims
 module _ (G : Graph) (before : List ℕ) (start : ℕ) (R : Ready G before start) where

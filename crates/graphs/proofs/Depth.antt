@@ -10,14 +10,14 @@ use lib.ListN.{length}
 use lib.Dec.{eqb}
 use Rattle.lists.specs.Members.{Mem, here, there, memb}
 use Rattle.lists.specs.Counts.{bump, countIn, sumOf}
-use Rattle.lists.proofs.Members.{mem-nil, each-cons, mem-append, mem-right, memb-true, memb-false, nodup-left}
+use Rattle.lists.proofs.Members.{mem-nil, each-cons, mem-left, mem-append, mem-right, memb-true, memb-false, nodup-left, nodup-apart}
 use Rattle.lists.proofs.Counts.{count-sum, sum-same}
 use Rattle.graphs.specs.Graph.{Graph, Closed, Leads, stays, along, Reached, met}
 use Rattle.graphs.specs.Events.{event, label, advance-tree, retreat-tree, scan, History, _▸_, known, labelled, scanned, traversed}
 use Rattle.graphs.specs.Depth.{Searches, searches, Traverses, none, tree, nontree, DepthFirst}
 use Rattle.graphs.specs.Search.{recorder, cross, walkEdges, search, depthFirst}
 use Rattle.graphs.specs.Claims.{Ready, DepthClaim, DepthFirstClaim}
-use Rattle.graphs.proofs.Labels.{Labels, Done, reached-counts}
+use Rattle.graphs.proofs.Labels.{Labels, Done, reached-counts, reached-exactly}
 use Rattle.graphs.proofs.DepthGrowth.{Can, CanWalk, can-walk, can-cross, no-fuel, Labelled, search-labels, search-same, next-walk}
 use Rattle.graphs.proofs.DepthCounts.{depth-balance}
 
@@ -92,31 +92,26 @@ module _ (G : Graph) (before : List ℕ) (start : ℕ) (R : Ready G before start
   pub depth-labels : Labels (G .size) (known before (depthFirst G before start))
   depth-labels = grown .grown .labels
 
-  -- What is known and not from before was labelled, and all its edges lead to what is known.
-  new-done : (x : ℕ) → (Mem x before → ⊥) → Mem x (known before (depthFirst G before start)) → Done G (known before (depthFirst G before start)) x
-  new-done x off m = go (grown .grown .closes x m)
+  -- What was labelled has all its edges' targets labelled, and so has the start.
+  depth-done : (x : ℕ) → Mem x (labelled (depthFirst G before start)) → Done G (known before (depthFirst G before start)) x
+  depth-done x m = go (grown .grown .closes x (mem-left before m))
     where
       go : Mem x before ⊎ Done G (known before (depthFirst G before start)) x → Done G (known before (depthFirst G before start)) x
-      go (inl q) = absurd (off q)
+      go (inl q) = absurd (nodup-apart (labelled (depthFirst G before start)) before (depth-labels .once) x m q)
       go (inr d) = d
 
-  off-before : {x : ℕ} → Leads G before start x → Mem x before → ⊥
-  off-before (stays e) m = R .start-fresh (subst (λ (y : ℕ). Mem y before) e m)
-  off-before (along r l m e off) q = off q
-
-  all-known : {x : ℕ} → Leads G before start x → Mem x (known before (depthFirst G before start))
-  all-known (stays e) = subst (λ (y : ℕ). Mem y (known before (depthFirst G before start))) (sym e) (grown .self)
-  all-known (along {v} r l m e off) = subst (λ (y : ℕ). Mem y (known before (depthFirst G before start))) e (new-done v (off-before l) (all-known l) r m)
+  depth-start : Mem start (labelled (depthFirst G before start))
+  depth-start = go (mem-append (labelled (depthFirst G before start)) before (grown .self))
+    where
+      go : Mem start (labelled (depthFirst G before start)) ⊎ Mem start before → Mem start (labelled (depthFirst G before start))
+      go (inl m) = m
+      go (inr m) = absurd (R .start-fresh m)
 
   pub depth-reached : Reached G before start (labelled (depthFirst G before start))
-  depth-reached = record { once = nodup-left (labelled (depthFirst G before start)) before (depth-labels .once); exact = λ x. (only x, λ l. new x l (mem-append (labelled (depthFirst G before start)) before (all-known l))) }
-    where
-      only : (x : ℕ) → Mem x (labelled (depthFirst G before start)) → Leads G before start x
-      only = search-only G before start depth-relates (stays refl) (λ x m. absurd (mem-nil m))
-
-      new : (x : ℕ) → Leads G before start x → Mem x (labelled (depthFirst G before start)) ⊎ Mem x before → Mem x (labelled (depthFirst G before start))
-      new x l (inl m) = m
-      new x l (inr m) = absurd (off-before l m)
+  depth-reached =
+      reached-exactly G before start (labelled (depthFirst G before start)) depth-start depth-done
+      (nodup-left (labelled (depthFirst G before start)) before (depth-labels .once))
+      (search-only G before start depth-relates (stays refl) (λ x m. absurd (mem-nil m)))
 
   -- For any weight, what is scanned weighs what is labelled, so it is the same.
   pub depth-scanned : Reached G before start (scanned (depthFirst G before start))

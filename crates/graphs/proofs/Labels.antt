@@ -2,14 +2,14 @@
 -- Growth is transitive, and whatever is new in it has all its edges' targets labelled.
 use mathlib.Core.Path.{_≡_, sym, subst}
 use mathlib.Core.Logic.{_⊎_, inl, inr}
-use mathlib.Core.List.{List, _∷_}
+use mathlib.Core.List.{List, _∷_, _++_}
 use Prim.Native.Nat.{ℕ, suc, _≤_}
 use native.Mathlib.Omega.{arith}
 use lib.ListN.{length}
 use Rattle.lists.specs.Members.{Mem, there, NoDup}
 use Rattle.lists.specs.Counts.{countIn}
 use Rattle.lists.proofs.Counts.{count-mem, mem-count, count-once, count-most}
-use Rattle.lists.proofs.Members.{mem-cons, each-cons, pigeonhole}
+use Rattle.lists.proofs.Members.{mem-cons, each-cons, mem-append, pigeonhole}
 use Rattle.graphs.specs.Nodes.{Vertex}
 use Rattle.graphs.specs.Graph.{Graph, Leads, stays, along, Reached}
 use Rattle.graphs.specs.Claims.{Ready}
@@ -79,3 +79,16 @@ leads-vertex G off start R (along {v} r l m e f) = subst (Vertex (G .size)) e (R
 
 pub reached-labels : (G : Graph) (off : List ℕ) (start : ℕ) → Ready G off start → (vs : List ℕ) → Reached G off start vs → Labels (G .size) vs
 reached-labels G off start R vs E = record { once = E .once; all = λ x m. leads-vertex G off start R (E .exact x .0 m) }
+
+-- Vertices among which is the start, each reached, none twice, and whose edges lead to them or off: these are the reached vertices.
+module _ (G : Graph) (off : List ℕ) (start : ℕ) (ls : List ℕ) (starts : Mem start ls) (closes : (x : ℕ) → Mem x ls → Done G (ls ++ off) x) where
+  reaches-all : {x : ℕ} → Leads G off start x → Mem x ls
+  reaches-all (stays e) = subst (λ (y : ℕ). Mem y ls) (sym e) starts
+  reaches-all (along {v} {x} r l m e ne) = go (mem-append ls off (subst (λ (y : ℕ). Mem y (ls ++ off)) e (closes v (reaches-all l) r m)))
+    where
+      go : Mem x ls ⊎ Mem x off → Mem x ls
+      go (inl k) = k
+      go (inr k) = absurd (ne k)
+
+  pub reached-exactly : NoDup ls → ((x : ℕ) → Mem x ls → Leads G off start x) → Reached G off start ls
+  reached-exactly once only = record { once = once; exact = λ x. (only x, reaches-all) }
