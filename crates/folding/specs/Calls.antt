@@ -1,5 +1,4 @@
--- Opening, runs, single steps and roll-back orders (document 01's opening, runs, single moves and winding orders), on any input:
--- what each answers, and what it leaves of the state, the links, the marks and the words lent for events.
+-- Opening, runs, single steps (single moves) and roll-back orders (winding orders), on any input: what each answers and leaves.
 use mathlib.Core.Bool.{Bool, true, false, cond, _&&_, _||_, not}
 use mathlib.Core.List.{List, [], _∷_, _++_}
 use Prim.Native.Nat.{ℕ, zero, suc, _+_, _*_}

@@ -1,5 +1,4 @@
--- What is claimed of a walker, over every input. `folded` meets all of it (proofs/); each wrong walker of document 01 c fails the part
--- named there (proofs/Wrong).
+-- What is claimed of a walker. `folded` meets all of it; each wrong walker of document 01 c fails the part named there (proofs/Wrong).
 use mathlib.Core.Path.{_≡_}
 use mathlib.Core.Logic.{_↔_, _≢_, _⊎_}
 use mathlib.Core.Bool.{true, false, cond}
@@ -137,6 +136,6 @@ pub record Agrees (g : Image) (start : ℕ) (vs : List ℕ) (l : Line) : Type 0 
   pub restored : (l .config .phase ≡ finished) ⊎ (l .config .phase ≡ rolledBack) → (l .config .after ≡ g .after) × (l .config .tail ≡ g .tail)
   pub faultless : Faultless (l .answers)
 
--- One claim about the whole list: every sound profile, all areas long enough, every list of calls.
+-- One claim about the whole list: every profile that an opening takes (sound, its areas long enough: SoundClaim), every list of calls.
 abbrev pub Agreement : Walker → Type 0
 Agreement W = (g : Image) (start : ℕ) (marks area : List ℕ) → openNumber g start marks area ≡ 0 → (vs : List ℕ) → Reached (graphOf g) [] start vs → (cs : List Call) → Agrees g start vs (lineB W g start marks area cs)

@@ -1,5 +1,4 @@
--- The two lines (document 01, "Agreement of the two lines"). Line A is one recursive search; line B is a folded search under a list
--- of calls, each on what the call before it left.
+-- The two lines (document 01, "Agreement of the two lines"): one recursive search, and a folded search under a list of calls.
 use mathlib.Core.Bool.{Bool, true, false, _||_}
 use mathlib.Core.List.{List, [], _∷_, _++_, reverse}
 use Prim.Native.Nat.{ℕ, _+_}

@@ -1,15 +1,17 @@
 -- A call that meets no condition: each of its conditions is false.
 -- The number of a list of conditions is 0 only where the first is false and the number of the others is 0.
-use mathlib.Core.Path.{_≡_, refl}
-use mathlib.Core.Bool.{Bool, true, false}
+use mathlib.Core.Path.{_≡_, refl, sym}
+use mathlib.Core.Logic.{_↔_}
+use mathlib.Core.Bool.{Bool, true, false, not, _||_}
 use mathlib.Core.List.{List, [], _∷_, _++_}
 use Prim.Native.Nat.{ℕ, _≤_, _<_}
 use native.Mathlib.Omega.{arith}
 use lib.ListN.{length}
 use lib.Dec.{ltb}
-use borrow.Author.Tests.{ltb-false}
-use Rattle.lists.proofs.Tests.{neither}
-use Rattle.graphs.specs.Refusals.{Refusal, refuse, firstOf, Lent, lent, short}
+use borrow.Author.Tests.{eqb-false, ltb-false}
+use Rattle.lists.proofs.Tests.{clash, neither}
+use Rattle.graphs.specs.Refusals.{Refusal, refuse, firstOf, verticesOut, edgesOut, vertexOut, afterOut, tailOut, listOut, Lent, lent, short, imageAreas}
+use Rattle.graphs.specs.Claims.{SoundClaim}
 
 -- No number is 0.
 abbrev pub Numbered : List Refusal → Type 0
@@ -34,3 +36,18 @@ all-false (refuse k b ∷ cs) own n e =
 
 pub long : (stated : ℕ) (area : List ℕ) (others : List Lent) → short (lent stated area ∷ others) ≡ false → (stated ≤ length area) × (short others ≡ false)
 long stated area others e = let z = neither (ltb (length area) stated) (short others) e in (ltb-false (length area) stated (z .0), z .1)
+
+-- ---- sound
+-- Of seven conditions in their order none is true, exactly where the third is false and none of the others is true.
+none-true : (a b h c d e f : Bool) → (firstOf (refuse 1 a ∷ refuse 2 b ∷ refuse 3 h ∷ refuse 4 c ∷ refuse 5 d ∷ refuse 6 e ∷ refuse 7 f ∷ []) ≡ 0) ↔ ((not (a || (b || (c || (d || (e || f))))) ≡ true) × (h ≡ false))
+none-true true b h c d e f = (λ q. absurd (eqb-false 1 0 refl q), λ q. clash (sym (q .0)))
+none-true false true h c d e f = (λ q. absurd (eqb-false 2 0 refl q), λ q. clash (sym (q .0)))
+none-true false false true c d e f = (λ q. absurd (eqb-false 3 0 refl q), λ q. clash (q .1))
+none-true false false false true d e f = (λ q. absurd (eqb-false 4 0 refl q), λ q. clash (sym (q .0)))
+none-true false false false false true e f = (λ q. absurd (eqb-false 5 0 refl q), λ q. clash (sym (q .0)))
+none-true false false false false false true f = (λ q. absurd (eqb-false 6 0 refl q), λ q. clash (sym (q .0)))
+none-true false false false false false false true = (λ q. absurd (eqb-false 7 0 refl q), λ q. clash (sym (q .0)))
+none-true false false false false false false false = (λ q. (refl, refl), λ q. refl)
+
+pub taken-sound : SoundClaim
+taken-sound g start areas = none-true (verticesOut (g .n)) (edgesOut (g .m)) (short (imageAreas g ++ areas)) (vertexOut (g .n) start) (afterOut g) (tailOut (g .n) (g .m) (g .tail)) (listOut g)

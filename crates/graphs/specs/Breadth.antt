@@ -1,5 +1,4 @@
--- Breadth-first search: the paper's section 2. A relation between the events before and the events after, over any graph and any
--- vertices labelled beforehand.
+-- Breadth-first search (the paper, section 2): a relation between the events before and after.
 use mathlib.Core.Path.{_≡_}
 use mathlib.Core.List.{List, [], _∷_, reverse}
 use Prim.Native.Nat.{ℕ}

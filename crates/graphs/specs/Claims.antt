@@ -1,7 +1,8 @@
 -- What is claimed of the two searches (demand 2), as types; proofs/ has the theorems of these names.
 use mathlib.Core.Path.{_≡_}
 use mathlib.Core.Logic.{_↔_}
-use mathlib.Core.List.{List, [], _∷_, reverse}
+use mathlib.Core.Bool.{true, false}
+use mathlib.Core.List.{List, [], _∷_, _++_, reverse}
 use Prim.Native.Nat.{ℕ, _+_, _*_, _≤_}
 use lib.ListN.{length}
 use Rattle.lists.specs.Members.{Mem, NoDup}
@@ -13,7 +14,7 @@ use Rattle.graphs.specs.Depth.{DepthFirst}
 use Rattle.graphs.specs.Breadth.{BreadthFirst}
 use Rattle.graphs.specs.Search.{recorder, search, depthFirst, drain, breadthFirst}
 use Rattle.graphs.specs.Image.{Image, graphOf}
-use Rattle.graphs.specs.Refusals.{Lent, searchNumber}
+use Rattle.graphs.specs.Refusals.{Lent, short, imageAreas, sound, searchNumber}
 
 -- A search may begin: a graph, vertices labelled beforehand, and a start that is not among them.
 pub record Ready (G : Graph) (before : List ℕ) (start : ℕ) : Type 0 where
@@ -54,6 +55,10 @@ DepthFirstClaim = (G : Graph) (before : List ℕ) (start : ℕ) → Ready G befo
 -- Demand 2, breadth-first.
 abbrev pub BreadthFirstClaim : Type 0
 BreadthFirstClaim = (G : Graph) (before : List ℕ) (start : ℕ) → Ready G before start → BreadthClaim G before start
+
+-- A search is taken exactly where the profile is sound and the areas are as long as stated.
+abbrev pub SoundClaim : Type 0
+SoundClaim = (g : Image) (start : ℕ) (areas : List Lent) → (searchNumber g start areas ≡ 0) ↔ ((sound g start ≡ true) × (short (imageAreas g ++ areas) ≡ false))
 
 -- Of a sound profile, the events of either search fit 6 (n + m) words.
 abbrev pub RoomClaim : Type 0

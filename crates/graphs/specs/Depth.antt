@@ -1,5 +1,4 @@
--- Depth-first search: the paper's section 3, as document 01 writes it out in "Agreement of the two lines".
--- A relation between the events before and the events after, over any graph and any vertices labelled beforehand.
+-- Depth-first search (the paper, section 3; document 01, "Written out, searching u is"): a relation between the events before and after.
 use mathlib.Core.List.{List, [], _∷_}
 use Prim.Native.Nat.{ℕ}
 use Rattle.lists.specs.Members.{Mem}

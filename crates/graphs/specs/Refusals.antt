@@ -77,6 +77,10 @@ imageAreas g = lent (g .n + g .m) (g .after) ∷ lent (g .m) (g .tail) ∷ []
 abbrev pub imageRefusals : Image → List Refusal
 imageRefusals g = refuse 5 (afterOut g) ∷ refuse 6 (tailOut (g .n) (g .m) (g .tail)) ∷ refuse 7 (listOut g) ∷ []
 
+-- A profile is sound where conditions 1, 2 and 4 to 7 are false of it and its start.
+abbrev pub sound : Image → ℕ → Bool
+sound g start = not (verticesOut (g .n) || (edgesOut (g .m) || (vertexOut (g .n) start || (afterOut g || (tailOut (g .n) (g .m) (g .tail) || listOut g)))))
+
 -- The number of a checker or converter of a linked image; `areas` are those lent besides the image.
 abbrev pub imageNumber : Image → List Lent → ℕ
 imageNumber g areas = firstOf (sizeRefusals (g .n) (g .m) (imageAreas g ++ areas) ++ imageRefusals g)
