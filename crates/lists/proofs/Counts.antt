@@ -80,10 +80,6 @@ pub length-sum : (l : List ℕ) → length l ≡ sumOf (λ x. 1) l
 length-sum [] = refl
 length-sum (x ∷ l) = let h = length-sum l in omega arith
 
-pub sum-append : (f : ℕ → ℕ) (k l : List ℕ) → sumOf f (k ++ l) ≡ sumOf f k + sumOf f l
-sum-append f [] l = omega arith
-sum-append f (x ∷ k) l = let h = sum-append f k l in omega arith
-
 take-out : (f : ℕ → ℕ) (x : ℕ) (l : List ℕ) → NoDup l → Mem x l → sumOf f l ≡ f x + sumOf f (without (x ∷ []) l)
 take-out f x [] h m = absurd (mem-nil m)
 take-out f x (y ∷ l) h m = go (compare y x) (λ k. take-out f x l (h .1) k)

@@ -131,10 +131,6 @@ pub nodup-left : (k l : List ℕ) → NoDup (k ++ l) → NoDup k
 nodup-left [] l h = tt
 nodup-left (x ∷ k) l h = (λ m. h .0 (mem-left l m), nodup-left k l (h .1))
 
-pub nodup-right : (k l : List ℕ) → NoDup (k ++ l) → NoDup l
-nodup-right [] l h = h
-nodup-right (x ∷ k) l h = nodup-right k l (h .1)
-
 pub nodup-apart : (k l : List ℕ) → NoDup (k ++ l) → (x : ℕ) → Mem x k → Mem x l → ⊥
 nodup-apart [] l h x m q = mem-nil m
 nodup-apart (y ∷ k) l h x m q = go (mem-cons m) (λ z. nodup-apart k l (h .1) x z q)

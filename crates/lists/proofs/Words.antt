@@ -8,7 +8,7 @@ use Prim.Native.Nat.{ℕ, zero, suc, _+_, _-_, _≤_, _<_}
 use native.Mathlib.Omega.{arith}
 use native.Mathlib.Nat.{add-zero}
 use lib.Dec.{eqb}
-use lib.ListN.{length, getD, set, drop, replicate, length-set, length-append, length-drop, length-replicate, getD-replicate, replicate-append-replicate, List·getD-append}
+use lib.ListN.{length, getD, set, drop, replicate, length-set, length-append, length-drop, length-replicate, replicate-append-replicate, List·getD-append}
 use lib.Seq.{set-set, set-comm, set-getD, getD-set-same, getD-set-other, set-append-left, drop-at, drop-set-lt, drop-append-add, drop-append-seam, drop-drop}
 use borrow.Author.Tests.{ne-eqb}
 use Rattle.lists.specs.Words.{at, put, overlay, cleared, valuesFrom, filled}
@@ -72,12 +72,6 @@ pub length-values : (f : ℕ → ℕ) (b k : ℕ) → length (valuesFrom f b k) 
 length-values f b zero = refl
 length-values f b (suc k) = ap suc (length-values f (suc b) k)
 
-pub at-cleared : (k : ℕ) (area : List ℕ) (x : ℕ) → 0 < x → x ≤ k → at 0 (cleared k area) x ≡ 0
-unfolding at
-at-cleared k area x h q =
-    List·getD-append (replicate k 0) (drop k area) 0 (x - suc zero) (omega (arith, length-replicate {A = ℕ} k 0))
-    ∙ getD-replicate k (x - suc zero) 0 0 (omega arith)
-
 -- Zeros everywhere are an area cleared.
 pub values-zero : (f : ℕ → ℕ) (b k : ℕ) → ((x : ℕ) → b < x → x ≤ b + k → f x ≡ 0) → valuesFrom f b k ≡ replicate k 0
 values-zero f b zero h = refl
@@ -110,9 +104,6 @@ unfolding put
 put-filled f k area u w h q =
     set-append-left (valuesFrom f 0 k) (drop k area) (u - suc zero) w (omega (arith, length-values f 0 k))
     ∙ ap (λ (ws : List ℕ). ws ++ drop k area) (values-set f 0 k u w h (omega arith))
-
-pub filled-same : (f g : ℕ → ℕ) (k : ℕ) (area : List ℕ) → ((x : ℕ) → 0 < x → x ≤ k → f x ≡ g x) → filled f k area ≡ filled g k area
-filled-same f g k area h = ap (λ (ws : List ℕ). ws ++ drop k area) (values-same f g 0 k (λ x p q. h x p (omega arith)))
 
 pub cleared-filled : (k : ℕ) (area : List ℕ) → cleared k area ≡ filled (λ x. 0) k area
 cleared-filled k area = ap (λ (ws : List ℕ). ws ++ drop k area) (sym (values-zero (λ x. 0) 0 k (λ x p q. refl)))
