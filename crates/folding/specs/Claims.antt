@@ -120,7 +120,7 @@ Faultless (ran stuck ∷ rest) = ⊥
 Faultless (taken ∷ rest) = Faultless rest
 Faultless (refused k ∷ rest) = (k ≢ 8) × Faultless rest
 
--- Line B, after a list of calls, beside line A; vs are the elements reached.
+-- Line B, after a list of calls, beside line A; vs are the elements reached, in any order (`Complete.labels` has such a list).
 pub record Agrees (g : Image) (start : ℕ) (vs : List ℕ) (l : Line) : Type 0 where
   -- B's events are the first of A's, in order.
   pub first : IsPrefix (l .events) (lineA g start)

@@ -1,5 +1,5 @@
--- What the searches leave in the areas, and the array form, of two small profiles: the printed one, and one whose element 1 refers to
--- itself before it refers to 2.
+-- What the searches leave in the areas, and the array form, of three small profiles: the printed one, one whose element 1 refers to
+-- itself before it refers to 2, and one whose element 1 refers to 2 twice.
 -- By computation on the definitions.
 use mathlib.Core.Path.{_≡_, refl}
 use mathlib.Core.Bool.{true}
@@ -18,6 +18,9 @@ printed = record { n = 3; m = 4; after = 4 ∷ 6 ∷ 7 ∷ 5 ∷ 0 ∷ 0 ∷ 0 �
 
 abbrev second : Image
 second = record { n = 2; m = 2; after = 3 ∷ 0 ∷ 4 ∷ 0 ∷ []; tail = 1 ∷ 2 ∷ [] }
+
+abbrev twice : Image
+twice = record { n = 2; m = 2; after = 3 ∷ 0 ∷ 4 ∷ 0 ∷ []; tail = 2 ∷ 2 ∷ [] }
 
 abbrev depth : Image → History
 depth g = depthFirst (graphOf g) [] 1
@@ -50,6 +53,11 @@ queue-printed = refl
 pub increments-second : incrementLeft (graphOf second) (depth second) (lentArea 2) ≡ 2 ∷ 1 ∷ []
 unfolding at edgesOf walkEdges search depthFirst
 increments-second = refl
+
+-- Two references from 1 to 2: the first is a tree reference, the second is not, and 2 is searched once.
+pub increments-twice : (incrementLeft (graphOf twice) (depth twice) (lentArea 2) ≡ 1 ∷ 1 ∷ []) × (tally (depth twice) ≡ 2 ∷ 1 ∷ 1 ∷ 1 ∷ 1 ∷ 2 ∷ 0 ∷ [])
+unfolding at edgesOf walkEdges search depthFirst
+increments-twice = (refl, refl)
 
 -- The array form, its rule, the reference number of each position, and its lists.
 pub array-printed : (arrayOf printed .firsts ≡ 1 ∷ 3 ∷ 4 ∷ 5 ∷ []) × (arrayOf printed .tails ≡ 2 ∷ 3 ∷ 3 ∷ 1 ∷ []) × (numbersOf printed ≡ 4 ∷ 5 ∷ 6 ∷ 7 ∷ []) × (inOrder (arrayOf printed) ≡ true) × (arrayGraph (arrayOf printed) .out 1 ≡ 4 ∷ 5 ∷ [])

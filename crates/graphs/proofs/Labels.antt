@@ -73,7 +73,7 @@ reached-counts G off start vs us same R = record {
 }
 
 -- What a path leads to is a vertex.
-leads-vertex : (G : Graph) (off : List ℕ) (start : ℕ) → Ready G off start → {x : ℕ} → Leads G off start x → Vertex (G .size) x
+pub leads-vertex : (G : Graph) (off : List ℕ) (start : ℕ) → Ready G off start → {x : ℕ} → Leads G off start x → Vertex (G .size) x
 leads-vertex G off start R (stays e) = subst (Vertex (G .size)) (sym e) (R .start-vertex)
 leads-vertex G off start R (along {v} r l m e f) = subst (Vertex (G .size)) e (R .closed v r (leads-vertex G off start R l) m)
 

@@ -9,3 +9,4 @@ pub mod Results
 pub mod Breadth
 pub mod Room
 pub mod Examples
+pub mod Trees

@@ -1,0 +1,95 @@
+-- The tree edges of a depth-first search lead to reached vertices, and never to the start; so a parent word is 0 for the start, its
+-- children and the unreached, and an increment is 0 exactly for the unreached.
+-- Along the derivation: a tree edge leads to a vertex not labelled before, and the start is labelled first.
+use mathlib.Core.Path.{_≡_, refl, sym, ap, _∙_, subst}
+use mathlib.Core.Bool.{Bool, true, false, cond, _&&_}
+use mathlib.Core.List.{List, [], _∷_, reverse}
+use Prim.Native.Nat.{ℕ, _≤_}
+use native.Mathlib.Omega.{arith}
+use lib.Dec.{eqb}
+use borrow.Author.Tests.{ne-eqb}
+use Rattle.lists.specs.Members.{Mem, here, there}
+use Rattle.lists.specs.Counts.{rank}
+use Rattle.lists.proofs.Tests.{clash}
+use Rattle.lists.proofs.Counts.{rank-none}
+use Rattle.lists.proofs.Members.{mem-reverse, mem-left, mem-right, mem-memb, memb-of-not}
+use Rattle.graphs.specs.Graph.{Graph, Leads, stays, along}
+use Rattle.graphs.specs.Events.{event, advance-tree, History, same, labelled, known}
+use Rattle.graphs.specs.Depth.{Searches, searches, Traverses, none, tree, nontree}
+use Rattle.graphs.specs.Search.{depthFirst}
+use Rattle.graphs.specs.Results.{lastTree, entry, parentWord, incrementWord}
+use Rattle.graphs.specs.Claims.{Ready}
+use Rattle.graphs.proofs.Labels.{leads-vertex}
+use Rattle.graphs.proofs.Depth.{depth-relates, depth-reached}
+
+-- P holds of every tree advance.
+abbrev AllTrees : (ℕ → ℕ → Type 0) → History → Type 0
+AllTrees P [] = Unit {0}
+AllTrees P (event k r u ∷ h) = (same k advance-tree ≡ true → P r u) × AllTrees P h
+
+-- Where no tree advance passes the test, there is no last one that does.
+no-tree : (f : ℕ → ℕ → Bool) (h : History) → AllTrees (λ r u. f r u ≡ false) h → lastTree f h ≡ (0, 0)
+no-tree f [] a = refl
+no-tree f (event k r u ∷ h) a = go (same k advance-tree) (a .0) (no-tree f h (a .1))
+  where
+    go : (b : Bool) → (b ≡ true → f r u ≡ false) → lastTree f h ≡ (0, 0) → cond (b && f r u) (r, u) (lastTree f h) ≡ (0, 0)
+    go true q e = rw (q refl) e
+    go false q e = e
+
+all-trees : {P Q : ℕ → ℕ → Type 0} → ((r u : ℕ) → P r u → Q r u) → (h : History) → AllTrees P h → AllTrees Q h
+all-trees f [] a = tt
+all-trees f (event k r u ∷ h) a = (λ e. f r u (a .0 e), all-trees f h (a .1))
+
+module _ (G : Graph) (before : List ℕ) (start : ℕ) where
+  -- A tree edge leads to a reached vertex that is not the start.
+  abbrev Into : ℕ → ℕ → Type 0
+  Into r u = Leads G before start (G .to r) × (G .to r ≡ start → ⊥)
+
+  record Trees (h : History) : Type 0 where
+    trees : AllTrees Into h
+    started : Mem start (labelled h)
+
+  mutual
+    search-trees : {u : ℕ} {h i : History} → Searches G before u h i → Leads G before start u → Mem start (u ∷ labelled h) → AllTrees Into h → Trees i
+    search-trees (searches {u} {h} t) l m a = let T = walk-trees t l (λ r q. q) (record { trees = (λ e. clash (sym e), a); started = m }) in record { trees = (λ e. clash (sym e), T .trees); started = T .started }
+
+    walk-trees : {u : ℕ} {rs : List ℕ} {h i : History} → Traverses G before u rs h i → Leads G before start u → ((r : ℕ) → Mem r rs → Mem r (G .out u)) → Trees h → Trees i
+    walk-trees none l sub T = T
+    walk-trees (tree {u} {r} {rs} {h} n s t) l sub T =
+        let to : Leads G before start (G .to r) = along r l (sub r (here refl)) refl (λ m. n (mem-right (labelled h) m)) in
+        let not-start : G .to r ≡ start → ⊥ = λ e. n (subst (λ (x : ℕ). Mem x (known before h)) (sym e) (mem-left before (T .started))) in
+        let S = search-trees s to (there (T .started)) (λ e. (to, not-start), T .trees) in
+        walk-trees t l (λ x m. sub x (there m)) (record { trees = (λ e. clash (sym e), S .trees); started = S .started })
+    walk-trees (nontree m t) l sub T = walk-trees t l (λ x q. sub x (there q)) (record { trees = (λ e. clash (sym e), (λ e. clash (sym e), T .trees)); started = T .started })
+
+  module _ (R : Ready G before start) where
+    trees : AllTrees Into (depthFirst G before start)
+    trees = search-trees (depth-relates G before start R) (stays refl) (here refl) tt .trees
+
+    -- No tree edge leads to the start, or to what is not reached.
+    no-entry : (x : ℕ) → (Leads G before start x → x ≡ start) → entry G (depthFirst G before start) x ≡ (0, 0)
+    no-entry x h = no-tree (λ r u. eqb (G .to r) x) (depthFirst G before start) (all-trees (λ r u i. ne-eqb (G .to r) x (λ e. i .1 (e ∙ h (subst (Leads G before start) e (i .0))))) (depthFirst G before start) trees)
+
+    null-entry : entry G (depthFirst G before start) 0 ≡ (0, 0)
+    null-entry = no-entry 0 (λ l. absurd (let v = leads-vertex G before start R l in omega arith))
+
+    -- A parent word is 0 for the start and the unreached.
+    pub parent-none : (x : ℕ) → (Leads G before start x → x ≡ start) → parentWord G (depthFirst G before start) x ≡ 0
+    parent-none x h = ap (λ (p : ℕ × ℕ). entry G (depthFirst G before start) (p .1) .0) (no-entry x h) ∙ ap (λ (p : ℕ × ℕ). p .0) null-entry
+
+    -- And for the children of the start.
+    pub parent-child : (x : ℕ) → entry G (depthFirst G before start) x .1 ≡ start → parentWord G (depthFirst G before start) x ≡ 0
+    parent-child x e = ap (λ (u : ℕ). entry G (depthFirst G before start) u .0) e ∙ ap (λ (p : ℕ × ℕ). p .0) (no-entry start (λ l. refl))
+
+    -- An increment is 0 for the unreached, and at least 1 for the reached.
+    pub increment-none : (x : ℕ) → (Leads G before start x → ⊥) → incrementWord G (depthFirst G before start) x ≡ 0
+    increment-none x h = rw (memb-of-not x (labelled (depthFirst G before start)) (λ m. h (depth-reached G before start R .exact x .0 m)))
+
+    pub increment-some : (x : ℕ) → Leads G before start x → 1 ≤ incrementWord G (depthFirst G before start) x
+    increment-some x l = rw (mem-memb (depth-reached G before start R .exact x .1 l)) (omega arith)
+
+    -- It is 1 for a reached vertex without a tree edge.
+    pub increment-one : (x : ℕ) → Leads G before start x → (Mem 0 (G .out x) → ⊥) → lastTree (λ r u. eqb u x) (depthFirst G before start) .0 ≡ 0 → incrementWord G (depthFirst G before start) x ≡ 1
+    increment-one x l ne e =
+        let z : rank (lastTree (λ r u. eqb u x) (depthFirst G before start) .0) (reverse (G .out x)) ≡ 0 = ap (λ (r : ℕ). rank r (reverse (G .out x))) e ∙ rank-none 0 (reverse (G .out x)) (λ m. ne (mem-reverse (G .out x) 0 .0 m)) in
+        rw (mem-memb (depth-reached G before start R .exact x .1 l)) (omega arith)
