@@ -78,58 +78,62 @@ module _ (G : Graph) (before : List ℕ) (start : ℕ) where
 
 -- ---- the claim
 module _ (G : Graph) (before : List ℕ) (start : ℕ) (R : Ready G before start) where
+  -- All events.
+  abbrev whole : History
+  whole = depthFirst G before start
+
   can : Can G before (R .closed) (G .size) start []
   can = record { vertex = R .start-vertex; fresh = R .start-fresh; labels = record { once = R .once; all = R .vertices }; enough = omega arith }
 
-  pub depth-relates : DepthFirst G before start (depthFirst G before start)
+  pub depth-relates : DepthFirst G before start whole
   unfolding depthFirst
   depth-relates = search-relates G before (R .closed) (G .size) start [] can
 
-  grown : Labelled G before (R .closed) start [] (depthFirst G before start)
+  grown : Labelled G before (R .closed) start [] whole
   unfolding depthFirst
   grown = search-labels G before (R .closed) (G .size) start [] can
 
-  pub depth-labels : Labels (G .size) (known before (depthFirst G before start))
+  pub depth-labels : Labels (G .size) (known before whole)
   depth-labels = grown .grown .labels
 
   -- What was labelled has all its edges' targets labelled, and so has the start.
-  depth-done : (x : ℕ) → Mem x (labelled (depthFirst G before start)) → Done G (known before (depthFirst G before start)) x
+  depth-done : (x : ℕ) → Mem x (labelled whole) → Done G (known before whole) x
   depth-done x m = go (grown .grown .closes x (mem-left before m))
     where
-      go : Mem x before ⊎ Done G (known before (depthFirst G before start)) x → Done G (known before (depthFirst G before start)) x
-      go (inl q) = absurd (nodup-apart (labelled (depthFirst G before start)) before (depth-labels .once) x m q)
+      go : Mem x before ⊎ Done G (known before whole) x → Done G (known before whole) x
+      go (inl q) = absurd (nodup-apart (labelled whole) before (depth-labels .once) x m q)
       go (inr d) = d
 
-  depth-start : Mem start (labelled (depthFirst G before start))
-  depth-start = go (mem-append (labelled (depthFirst G before start)) before (grown .self))
+  depth-start : Mem start (labelled whole)
+  depth-start = go (mem-append (labelled whole) before (grown .self))
     where
-      go : Mem start (labelled (depthFirst G before start)) ⊎ Mem start before → Mem start (labelled (depthFirst G before start))
+      go : Mem start (labelled whole) ⊎ Mem start before → Mem start (labelled whole)
       go (inl m) = m
       go (inr m) = absurd (R .start-fresh m)
 
-  pub depth-reached : Reached G before start (labelled (depthFirst G before start))
+  pub depth-reached : Reached G before start (labelled whole)
   depth-reached =
-      reached-exactly G before start (labelled (depthFirst G before start)) depth-start depth-done
-      (nodup-left (labelled (depthFirst G before start)) before (depth-labels .once))
+      reached-exactly G before start (labelled whole) depth-start depth-done
+      (nodup-left (labelled whole) before (depth-labels .once))
       (search-only G before start depth-relates (stays refl) (λ x m. absurd (mem-nil m)))
 
   -- For any weight, what is scanned weighs what is labelled, so it is the same.
-  pub depth-scanned : Reached G before start (scanned (depthFirst G before start))
-  depth-scanned = reached-counts G before start (labelled (depthFirst G before start)) (scanned (depthFirst G before start)) (λ x. weight x) depth-reached
+  pub depth-scanned : Reached G before start (scanned whole)
+  depth-scanned = reached-counts G before start (labelled whole) (scanned whole) (λ x. weight x) depth-reached
     where
-      weight : (x : ℕ) → countIn x (scanned (depthFirst G before start)) ≡ countIn x (labelled (depthFirst G before start))
+      weight : (x : ℕ) → countIn x (scanned whole) ≡ countIn x (labelled whole)
       weight x =
           let b = depth-balance G before (λ y. bump (eqb x y) 0) (λ y. 0) start in
-          let c : sumOf (λ y. bump (eqb x y) 0) (scanned (depthFirst G before start)) ≡ sumOf (λ y. bump (eqb x y) 0) (labelled (depthFirst G before start)) = omega (arith, b .scans) in
-          count-sum x (scanned (depthFirst G before start)) ∙ c ∙ sym (count-sum x (labelled (depthFirst G before start)))
+          let c : sumOf (λ y. bump (eqb x y) 0) (scanned whole) ≡ sumOf (λ y. bump (eqb x y) 0) (labelled whole) = omega (arith, b .scans) in
+          count-sum x (scanned whole) ∙ c ∙ sym (count-sum x (labelled whole))
 
-  depth-edges : (r : ℕ) → countIn r (traversed (depthFirst G before start)) ≡ sumOf (λ u. countIn r (G .out u)) (labelled (depthFirst G before start))
+  depth-edges : (r : ℕ) → countIn r (traversed whole) ≡ sumOf (λ u. countIn r (G .out u)) (labelled whole)
   depth-edges r =
       let b = depth-balance G before (λ y. 0) (λ y. bump (eqb r y) 0) start in
-      let c : sumOf (λ y. bump (eqb r y) 0) (traversed (depthFirst G before start)) ≡ sumOf (λ u. sumOf (λ y. bump (eqb r y) 0) (G .out u)) (labelled (depthFirst G before start)) = omega (arith, b .edges) in
-      count-sum r (traversed (depthFirst G before start)) ∙ c ∙ sum-same (λ u. sumOf (λ y. bump (eqb r y) 0) (G .out u)) (λ u. countIn r (G .out u)) (λ u. sym (count-sum r (G .out u))) (labelled (depthFirst G before start))
+      let c : sumOf (λ y. bump (eqb r y) 0) (traversed whole) ≡ sumOf (λ u. sumOf (λ y. bump (eqb r y) 0) (G .out u)) (labelled whole) = omega (arith, b .edges) in
+      count-sum r (traversed whole) ∙ c ∙ sum-same (λ u. sumOf (λ y. bump (eqb r y) 0) (G .out u)) (λ u. countIn r (G .out u)) (λ u. sym (count-sum r (G .out u))) (labelled whole)
 
-  depth-fuel : (k : ℕ) → G .size ≤ k → search (recorder before) G k start [] ≡ depthFirst G before start
+  depth-fuel : (k : ℕ) → G .size ≤ k → search (recorder before) G k start [] ≡ whole
   unfolding depthFirst
   depth-fuel k h = search-same G before (R .closed) k (G .size) start [] (record { vertex = can .vertex; fresh = can .fresh; labels = can .labels; enough = omega arith }) can
 
@@ -145,7 +149,7 @@ module _ (G : Graph) (before : List ℕ) (start : ℕ) (R : Ready G before start
         nontree-pairs = omega (arith, b .nontrees);
       }
 
-  pub depth-length : length (depthFirst G before start) ≡ 2 * (met G (labelled (depthFirst G before start)) + length (labelled (depthFirst G before start)))
+  pub depth-length : length whole ≡ 2 * (met G (labelled whole) + length (labelled whole))
   depth-length = omega (arith, depth-balance G before (λ y. 0) (λ y. 0) start .size)
 
 pub depth-first : DepthFirstClaim

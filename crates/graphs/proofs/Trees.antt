@@ -62,34 +62,38 @@ module _ (G : Graph) (before : List ℕ) (start : ℕ) where
         walk-trees t l (λ x m. sub x (there m)) (record { trees = (λ e. clash (sym e), S .trees); started = S .started })
     walk-trees (nontree m t) l sub T = walk-trees t l (λ x q. sub x (there q)) (record { trees = (λ e. clash (sym e), (λ e. clash (sym e), T .trees)); started = T .started })
 
+  -- All events.
+  abbrev whole : History
+  whole = depthFirst G before start
+
   module _ (R : Ready G before start) where
-    trees : AllTrees Into (depthFirst G before start)
+    trees : AllTrees Into whole
     trees = search-trees (depth-relates G before start R) (stays refl) (here refl) tt .trees
 
     -- No tree edge leads to the start, or to what is not reached.
-    no-entry : (x : ℕ) → (Leads G before start x → x ≡ start) → entry G (depthFirst G before start) x ≡ (0, 0)
-    no-entry x h = no-tree (λ r u. eqb (G .to r) x) (depthFirst G before start) (all-trees (λ r u i. ne-eqb (G .to r) x (λ e. i .1 (e ∙ h (subst (Leads G before start) e (i .0))))) (depthFirst G before start) trees)
+    no-entry : (x : ℕ) → (Leads G before start x → x ≡ start) → entry G whole x ≡ (0, 0)
+    no-entry x h = no-tree (λ r u. eqb (G .to r) x) whole (all-trees (λ r u i. ne-eqb (G .to r) x (λ e. i .1 (e ∙ h (subst (Leads G before start) e (i .0))))) whole trees)
 
-    null-entry : entry G (depthFirst G before start) 0 ≡ (0, 0)
+    null-entry : entry G whole 0 ≡ (0, 0)
     null-entry = no-entry 0 (λ l. absurd (let v = leads-vertex G before start R l in omega arith))
 
     -- A parent word is 0 for the start and the unreached.
-    pub parent-none : (x : ℕ) → (Leads G before start x → x ≡ start) → parentWord G (depthFirst G before start) x ≡ 0
-    parent-none x h = ap (λ (p : ℕ × ℕ). entry G (depthFirst G before start) (p .1) .0) (no-entry x h) ∙ ap (λ (p : ℕ × ℕ). p .0) null-entry
+    pub parent-none : (x : ℕ) → (Leads G before start x → x ≡ start) → parentWord G whole x ≡ 0
+    parent-none x h = ap (λ (p : ℕ × ℕ). entry G whole (p .1) .0) (no-entry x h) ∙ ap (λ (p : ℕ × ℕ). p .0) null-entry
 
     -- And for the children of the start.
-    pub parent-child : (x : ℕ) → entry G (depthFirst G before start) x .1 ≡ start → parentWord G (depthFirst G before start) x ≡ 0
-    parent-child x e = ap (λ (u : ℕ). entry G (depthFirst G before start) u .0) e ∙ ap (λ (p : ℕ × ℕ). p .0) (no-entry start (λ l. refl))
+    pub parent-child : (x : ℕ) → entry G whole x .1 ≡ start → parentWord G whole x ≡ 0
+    parent-child x e = ap (λ (u : ℕ). entry G whole u .0) e ∙ ap (λ (p : ℕ × ℕ). p .0) (no-entry start (λ l. refl))
 
     -- An increment is 0 for the unreached, and at least 1 for the reached.
-    pub increment-none : (x : ℕ) → (Leads G before start x → ⊥) → incrementWord G (depthFirst G before start) x ≡ 0
-    increment-none x h = rw (memb-of-not x (labelled (depthFirst G before start)) (λ m. h (depth-reached G before start R .exact x .0 m)))
+    pub increment-none : (x : ℕ) → (Leads G before start x → ⊥) → incrementWord G whole x ≡ 0
+    increment-none x h = rw (memb-of-not x (labelled whole) (λ m. h (depth-reached G before start R .exact x .0 m)))
 
-    pub increment-some : (x : ℕ) → Leads G before start x → 1 ≤ incrementWord G (depthFirst G before start) x
+    pub increment-some : (x : ℕ) → Leads G before start x → 1 ≤ incrementWord G whole x
     increment-some x l = rw (mem-memb (depth-reached G before start R .exact x .1 l)) (omega arith)
 
     -- It is 1 for a reached vertex without a tree edge.
-    pub increment-one : (x : ℕ) → Leads G before start x → (Mem 0 (G .out x) → ⊥) → lastTree (λ r u. eqb u x) (depthFirst G before start) .0 ≡ 0 → incrementWord G (depthFirst G before start) x ≡ 1
+    pub increment-one : (x : ℕ) → Leads G before start x → (Mem 0 (G .out x) → ⊥) → lastTree (λ r u. eqb u x) whole .0 ≡ 0 → incrementWord G whole x ≡ 1
     increment-one x l ne e =
-        let z : rank (lastTree (λ r u. eqb u x) (depthFirst G before start) .0) (reverse (G .out x)) ≡ 0 = ap (λ (r : ℕ). rank r (reverse (G .out x))) e ∙ rank-none 0 (reverse (G .out x)) (λ m. ne (mem-reverse (G .out x) 0 .0 m)) in
+        let z : rank (lastTree (λ r u. eqb u x) whole .0) (reverse (G .out x)) ≡ 0 = ap (λ (r : ℕ). rank r (reverse (G .out x))) e ∙ rank-none 0 (reverse (G .out x)) (λ m. ne (mem-reverse (G .out x) 0 .0 m)) in
         rw (mem-memb (depth-reached G before start R .exact x .1 l)) (omega arith)
