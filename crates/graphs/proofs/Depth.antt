@@ -137,7 +137,7 @@ module _ (G : Graph) (before : List ℕ) (start : ℕ) (R : Ready G before start
   unfolding depthFirst
   depth-fuel k h = search-same G before (R .closed) k (G .size) start [] (record { vertex = can .vertex; fresh = can .fresh; labels = can .labels; enough = omega arith }) can
 
-  pub depth-claim : DepthClaim G before start
+  pub depth-claim : DepthClaim G before start whole
   depth-claim =
       let b = depth-balance G before (λ y. 0) (λ y. 0) start in
       record {

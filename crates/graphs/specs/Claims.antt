@@ -31,30 +31,30 @@ pub record Complete (G : Graph) (before : List ℕ) (start : ℕ) (h : History) 
   pub scans : Reached G before start (scanned h)
   pub edges : (r : ℕ) → countIn r (traversed h) ≡ sumOf (λ u. countIn r (G .out u)) (labelled h)
 
--- Depth-first: there is one search, the executable one, whatever its fuel, if that is enough; it is complete, and each advance has its retreat.
-pub record DepthClaim (G : Graph) (before : List ℕ) (start : ℕ) : Type 0 where
-  pub one : (h : History) → DepthFirst G before start h ↔ (h ≡ depthFirst G before start)
-  pub fuel : (k : ℕ) → G .size ≤ k → search (recorder before) G k start [] ≡ depthFirst G before start
-  pub complete : Complete G before start (depthFirst G before start)
-  pub advances : count advance-tree (depthFirst G before start) + count advance-nontree (depthFirst G before start) ≡ met G (labelled (depthFirst G before start))
-  pub tree-pairs : count advance-tree (depthFirst G before start) ≡ count retreat-tree (depthFirst G before start)
-  pub nontree-pairs : count advance-nontree (depthFirst G before start) ≡ count retreat-nontree (depthFirst G before start)
+-- h is the one depth-first search, whatever the fuel, if that is enough; it is complete, and each advance has its retreat.
+pub record DepthClaim (G : Graph) (before : List ℕ) (start : ℕ) (h : History) : Type 0 where
+  pub one : (i : History) → DepthFirst G before start i ↔ (i ≡ h)
+  pub fuel : (k : ℕ) → G .size ≤ k → search (recorder before) G k start [] ≡ h
+  pub complete : Complete G before start h
+  pub advances : count advance-tree h + count advance-nontree h ≡ met G (labelled h)
+  pub tree-pairs : count advance-tree h ≡ count retreat-tree h
+  pub nontree-pairs : count advance-nontree h ≡ count retreat-nontree h
 
--- Breadth-first: there is one search, the executable one, whatever its fuel, if that is enough; it is complete, and scans in the order of labelling.
-pub record BreadthClaim (G : Graph) (before : List ℕ) (start : ℕ) : Type 0 where
-  pub one : (h : History) → BreadthFirst G before start h ↔ (h ≡ breadthFirst G before start)
-  pub fuel : (k : ℕ) → G .size ≤ k → drain (recorder before) G k (start ∷ []) ([] ▸ event label 0 start) ≡ breadthFirst G before start
-  pub complete : Complete G before start (breadthFirst G before start)
-  pub in-order : scanned (breadthFirst G before start) ≡ labelled (breadthFirst G before start)
-  pub traverses : count traverse (breadthFirst G before start) ≡ met G (labelled (breadthFirst G before start))
+-- h is the one breadth-first search, whatever the fuel, if that is enough; it is complete, and scans in the order of labelling.
+pub record BreadthClaim (G : Graph) (before : List ℕ) (start : ℕ) (h : History) : Type 0 where
+  pub one : (i : History) → BreadthFirst G before start i ↔ (i ≡ h)
+  pub fuel : (k : ℕ) → G .size ≤ k → drain (recorder before) G k (start ∷ []) ([] ▸ event label 0 start) ≡ h
+  pub complete : Complete G before start h
+  pub in-order : scanned h ≡ labelled h
+  pub traverses : count traverse h ≡ met G (labelled h)
 
 -- Demand 2, depth-first: of every graph and start.
 abbrev pub DepthFirstClaim : Type 0
-DepthFirstClaim = (G : Graph) (before : List ℕ) (start : ℕ) → Ready G before start → DepthClaim G before start
+DepthFirstClaim = (G : Graph) (before : List ℕ) (start : ℕ) → Ready G before start → DepthClaim G before start (depthFirst G before start)
 
 -- Demand 2, breadth-first.
 abbrev pub BreadthFirstClaim : Type 0
-BreadthFirstClaim = (G : Graph) (before : List ℕ) (start : ℕ) → Ready G before start → BreadthClaim G before start
+BreadthFirstClaim = (G : Graph) (before : List ℕ) (start : ℕ) → Ready G before start → BreadthClaim G before start (breadthFirst G before start)
 
 -- A search is taken exactly where the profile is sound and the areas are as long as stated.
 abbrev pub SoundClaim : Type 0
