@@ -9,7 +9,7 @@ use native.Mathlib.Omega.{arith}
 use lib.ListN.{length, drop}
 use borrow.Author.Tests.{not-false}
 use Rattle.lists.specs.Words.{overlay, cleared}
-use Rattle.lists.proofs.Words.{length-put, length-cleared, put-past, cleared-past, length-overlay, overlay-past}
+use Rattle.lists.proofs.Words.{length-put, length-cleared, put-past, cleared-past}
 use Rattle.graphs.specs.Events.{Event, event, label, words}
 use Rattle.graphs.specs.Image.{Image}
 use Rattle.graphs.specs.Refusals.{Refusal, refuse, firstOf, Lent, lent, short, vertexOut, sizeRefusals}
@@ -43,7 +43,7 @@ performed w rollBack k e = taken-not k e
 -- ---- confined
 -- A reply whose configuration is within, and whose events fit the area.
 confined : (w : Config) (area : List ℕ) (a : Answer) (made : ℕ) (es : List Event) (x : Config) → Within w x → length (words es) ≤ length area → Confined w area (record { answer = a; steps = made; events = es; config = x; area = overlay (words es) area })
-confined w area a made es x W h = record { links = W; area-length = length-overlay (words es) area h; area-past = overlay-past (words es) area }
+confined w area a made es x W h = record { links = W; fits = h; told = refl }
 
 -- Nothing changed.
 still : (w : Config) (area : List ℕ) (k : ℕ) → Confined w area (refusing k w area)
@@ -132,9 +132,13 @@ demand1 = record {
   call-confined = λ w c. unless-confined (numberOf w c) w (areaOf c) (perform w c) (perform-confined w c);
 }
 
-pub single-steps : StepClaim folded
-unfolding serve
-single-steps w area h = ap (λ (k : ℕ). unless k w area (perform w (single area))) h
+pub steps-as-defined : StepClaim folded
+unfolding opening serve
+steps-as-defined = record {
+  opened = λ g start marks area h. ap (λ (k : ℕ). unless k (unopened g start marks) area (openReply g start marks area)) h;
+  stepped = λ w area h. ap (λ (k : ℕ). unless k w area (perform w (single area))) h;
+  ordered = λ w h. ap (λ (k : ℕ). unless k w [] (perform w rollBack)) h;
+}
 
 reason-of : {x y : Reason} → ran x ≡ ran y → x ≡ y
 reason-of e = cc

@@ -61,7 +61,7 @@ eager = record { opens = opening; serves = λ w c. says taken 1 (rest w) w c }
 
 pub eager-fails : StepClaim eager → ⊥
 unfolding at put edgesOf walkEdges search depthFirst stepOf fits enact
-eager-fails d = let z : _≡_ {A = ℕ} 3 2 = ap (λ (r : Reply). length (r .events)) (d (openedAt loop 1 (0 ∷ 0 ∷ [])) six refl) in omega arith
+eager-fails d = let z : _≡_ {A = ℕ} 3 2 = ap (λ (r : Reply). length (r .events)) (d .stepped (openedAt loop 1 (0 ∷ 0 ∷ [])) six refl) in omega arith
 
 -- ---- the run's tests
 -- It says spent with steps left: it makes one step fewer than allowed.

@@ -6,14 +6,14 @@ use mathlib.Core.List.{List, [], _∷_, _++_, reverse, IsPrefix}
 use Prim.Native.Nat.{ℕ, zero, suc, _+_, _*_, _≤_, _<_}
 use lib.ListN.{length, drop}
 use lib.Dec.{eqb}
-use Rattle.lists.specs.Words.{cleared}
+use Rattle.lists.specs.Words.{overlay, cleared}
 use Rattle.graphs.specs.Graph.{Reached, met}
 use Rattle.graphs.specs.Events.{History, advance-nontree, count, words}
 use Rattle.graphs.specs.Depth.{DepthFirst}
 use Rattle.graphs.specs.Results.{marksLeft}
 use Rattle.graphs.specs.Image.{Image, graphOf}
 use Rattle.folding.specs.Machine.{Config, finished, rolledBack, Stepped, canStep, step}
-use Rattle.folding.specs.Calls.{Reason, ended, spent, stuck, Answer, ran, taken, refused, Reply, refusing, over, fieldsIn, Run, run, Call, runFor, single, areaOf, numberOf, perform, runNumber, stepNumber, openNumber, unopened}
+use Rattle.folding.specs.Calls.{Reason, ended, spent, stuck, Answer, ran, taken, refused, Reply, refusing, over, fieldsIn, Run, run, Call, runFor, single, areaOf, numberOf, perform, runNumber, stepNumber, openNumber, unopened, rollBack, rollBackNumber, openReply}
 use Rattle.folding.specs.Lines.{Walker, Line, lineA, lineB}
 
 -- ---- demand 1: the table's conditions
@@ -34,11 +34,11 @@ pub record Within (w x : Config) : Type 0 where
   pub tail-past : drop (w .m) (x .tail) ≡ drop (w .m) (w .tail)
   pub marks-past : drop (w .n + w .m) (x .marks) ≡ drop (w .n + w .m) (w .marks)
 
--- A call touches only its areas: of the links and marks the stated words, of the event area the words of its events.
+-- A call touches only its areas: of the links and marks the stated words; of the event area the words of its events, which it then holds.
 pub record Confined (w : Config) (area : List ℕ) (r : Reply) : Type 0 where
   pub links : Within w (r .config)
-  pub area-length : length (r .area) ≡ length area
-  pub area-past : drop (length (words (r .events))) (r .area) ≡ drop (length (words (r .events))) area
+  pub fits : length (words (r .events)) ≤ length area
+  pub told : r .area ≡ overlay (words (r .events)) area
 
 -- Demand 1: every call, on any input at all, is judged by its number and touches only its areas.
 pub record Demand1 (W : Walker) : Type 0 where
@@ -48,9 +48,11 @@ pub record Demand1 (W : Walker) : Type 0 where
   pub call-confined : (w : Config) (c : Call) → Confined w (areaOf c) (W .serves w c)
 
 -- ---- the moves
--- A single step that is not refused is the step of the definition.
-abbrev pub StepClaim : Walker → Type 0
-StepClaim W = (w : Config) (area : List ℕ) → stepNumber w area ≡ 0 → W .serves w (single area) ≡ perform w (single area)
+-- An opening, a single step and a roll-back order that are not refused are those of the definition.
+pub record StepClaim (W : Walker) : Type 0 where
+  pub opened : (g : Image) (start : ℕ) (marks area : List ℕ) → openNumber g start marks area ≡ 0 → W .opens g start marks area ≡ openReply g start marks area
+  pub stepped : (w : Config) (area : List ℕ) → stepNumber w area ≡ 0 → W .serves w (single area) ≡ perform w (single area)
+  pub ordered : (w : Config) → rollBackNumber w ≡ 0 → W .serves w rollBack ≡ perform w rollBack
 
 -- On any words, a step that fits keeps the state fields in kind and stays within its areas.
 abbrev pub KeepClaim : Type 0
