@@ -198,6 +198,7 @@ module _ (g : Image) (S : Sound g) (start : ℕ) (hs : Vertex (g .n) start) (are
 -- What an opening taken leaves meets the invariant, and so does every list of calls.
 module _ (g : Image) (start : ℕ) (marks area : List ℕ) (h : openNumber g start marks area ≡ 0) where
   profile : Profile g start (lent (g .n + g .m) marks ∷ lent 3 area ∷ [])
+  unfolding openNumber
   profile = profile-sound g start (lent (g .n + g .m) marks ∷ lent 3 area ∷ []) h
 
   marks-long : g .n + g .m ≤ length marks

@@ -73,6 +73,7 @@ lengths w k area h =
     record { marks-long = c .0; area-long = long k area [] (c .1) .0 }
 
 run-confined : (w : Config) (k : ℕ) (area : List ℕ) → runNumber w k area ≡ 0 → Confined w area (perform w (runFor k area))
+unfolding runNumber
 run-confined w k area h =
     let P = passed w (workAreas w (6 * k) area) [] h in
     let Z = lengths w (6 * k) area (P .areas-long) in
@@ -86,6 +87,7 @@ fits-of w h =
     not-false (canStep w) (sym (ap (λ (x : Bool). not x && not (canStep w)) (a .0 .1 .0)) ∙ a .0 .0)
 
 single-confined : (w : Config) (area : List ℕ) → stepNumber w area ≡ 0 → Confined w area (perform w (single area))
+unfolding stepNumber
 single-confined w area h =
     let P = passed w (workAreas w 6 area) (stepRefusals w) h in
     let Z = lengths w 6 area (P .areas-long) in
@@ -102,6 +104,7 @@ unless-confined zero w area r h = h refl
 unless-confined (suc k) w area r h = still w area (suc k)
 
 open-confined : (g : Image) (start : ℕ) (marks area : List ℕ) → openNumber g start marks area ≡ 0 → Confined (unopened g start marks) area (openReply g start marks area)
+unfolding openNumber
 open-confined g start marks area h =
     let P = profile-sound g start (lent (g .n + g .m) marks ∷ lent 3 area ∷ []) h in
     let a = long (g .n + g .m) marks (lent 3 area ∷ []) (P .areas-long) in

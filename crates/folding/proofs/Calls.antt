@@ -26,7 +26,7 @@ use Rattle.graphs.proofs.Sound.{Sound, graph-closed}
 use Rattle.graphs.proofs.DepthGrowth.{search-unroll}
 use Rattle.graphs.proofs.Results.{marks-first, marks-length}
 use Rattle.folding.specs.Machine.{Config, walking, restoring, finished, rollingBack, rolledBack, canStep, step}
-use Rattle.folding.specs.Calls.{Reason, ended, spent, stuck, Answer, ran, refused, refusing, unless, over, fieldsIn, stateNumber, workAreas, stepRefusals, inPhase, run, Call, runFor, single, rollBack, areaOf, numberOf, perform, serve, openedAt}
+use Rattle.folding.specs.Calls.{Reason, ended, spent, stuck, Answer, ran, refused, refusing, unless, over, fieldsIn, stateNumber, workAreas, stepRefusals, inPhase, run, Call, runFor, single, rollBack, areaOf, numberOf, perform, serve, openedAt, runNumber, stepNumber, rollBackNumber}
 use Rattle.folding.specs.Lines.{Line, orders, addIf, noted, calls, folded}
 use Rattle.folding.specs.Claims.{flag, Faultless}
 use Rattle.folding.proofs.Bent.{Frame, parent, bentAfter, configAt, configEnd}
@@ -206,13 +206,16 @@ module _ (g : Image) (S : Sound g) (start : ℕ) (hs : Vertex (g .n) start) (are
 
   -- A run with room for its events is not refused.
   pub run-number : (l : Line) (k : ℕ) (room : List ℕ) → Held l → 6 * k ≤ length room → numberOf (l .config) (runFor k room) ≡ 0
+  unfolding runNumber
   run-number l k room H e = work-number (l .config) (6 * k) room [] false (sized (traceOf l (H .history)) (H .holds)) (le-ltb (length room) (6 * k) e)
 
   run-called : (l : Line) (k : ℕ) (room : List ℕ) → Held l → (b : Bool) → ltb (length room) (6 * k) ≡ b → Held (noted l (runFor k room) (serve (l .config) (runFor k room)))
+  unfolding runNumber
   run-called l k room H true e = by-number l (runFor k room) 3 (work-number (l .config) (6 * k) room [] true (sized (traceOf l (H .history)) (H .holds)) e) (refused-held l (runFor k room) 3 room (eqb-false 3 8 refl) refl H)
   run-called l k room H false e = by-number l (runFor k room) 0 (work-number (l .config) (6 * k) room [] false (sized (traceOf l (H .history)) (H .holds)) e) (run-held l k room H)
 
   single-called : (l : Line) (room : List ℕ) → Held l → (b o : Bool) → ltb (length room) 6 ≡ b → over (l .config) ≡ o → Held (noted l (single room) (serve (l .config) (single room)))
+  unfolding stepNumber
   single-called l room H true o e f = by-number l (single room) 3 (work-number (l .config) 6 room (stepRefusals (l .config)) true (sized (traceOf l (H .history)) (H .holds)) e) (refused-held l (single room) 3 room (eqb-false 3 8 refl) refl H)
   single-called l room H false true e f =
       by-number l (single room) 9
@@ -227,6 +230,7 @@ module _ (g : Image) (S : Sound g) (start : ℕ) (hs : Vertex (g .n) start) (are
       (step-held l room H M)
 
   order-called : (l : Line) → Held l → (o : Bool) → over (l .config) ≡ o → Held (noted l rollBack (serve (l .config) rollBack))
+  unfolding rollBackNumber
   order-called l H true f = by-number l rollBack 9 (order-number (l .config) (refuse 9 (over (l .config)) ∷ []) (sized (traceOf l (H .history)) (H .holds)) ∙ (λ i. firstOf (refuse 9 (f i) ∷ []))) (refused-held l rollBack 9 [] (eqb-false 9 8 refl) refl H)
   order-called l H false f = by-number l rollBack 0 (order-number (l .config) (refuse 9 (over (l .config)) ∷ []) (sized (traceOf l (H .history)) (H .holds)) ∙ (λ i. firstOf (refuse 9 (f i) ∷ []))) (order-held l H f)
 

@@ -20,9 +20,11 @@ pub record Fields (w : Config) : Type 0 where
   pub circular-in : w .circular ≤ 1
 
 pub fields-yes : (w : Config) → Fields w → fieldsIn w ≡ true
+unfolding fieldsIn
 fields-yes w k = and-true (k .v-in) (and-true (k .e-in) (and-true (k .f-in) (and-true (k .phase-in) (and-true (and-true (le-leb 2 (w .next) (k .next-low)) (le-leb (w .next) (suc (w .n)) (k .next-high))) (le-leb (w .circular) 1 (k .circular-in))))))
 
 pub fields-are : (w : Config) → fieldsIn w ≡ true → Fields w
+unfolding fieldsIn
 fields-are w h =
     let a = both (isVertex (w .n) (w .v)) _ h in
     let b = both (isLink (w .n) (w .m) (w .e)) _ (a .1) in

@@ -19,8 +19,9 @@ use Rattle.graphs.specs.Claims.{Ready}
 use Rattle.graphs.proofs.Sound.{profile-sound}
 use Rattle.graphs.proofs.Depth.{depth-first}
 use Rattle.graphs.proofs.Room.{profile-ready}
+use Rattle.graphs.specs.Refusals.{afterOut, tailOut, listOut, searchNumber}
 use Rattle.folding.specs.Machine.{Config, finished, stepOf, fits, enact}
-use Rattle.folding.specs.Calls.{ended, spent, stuck, Answer, ran, taken, Reply, refusing, inPhase, Call, runFor, single, rollBack, areaOf, run, perform, serve, unopened, openedAt, opening}
+use Rattle.folding.specs.Calls.{ended, spent, stuck, Answer, ran, taken, Reply, refusing, inPhase, Call, runFor, single, rollBack, areaOf, run, perform, serve, unopened, openedAt, opening, openNumber, fieldsIn, runNumber, stepNumber, rollBackNumber}
 use Rattle.folding.specs.Lines.{Walker, lineA, calls}
 use Rattle.folding.specs.Claims.{Demand1, StepClaim, RunClaim, Demand2, Agreement}
 use Rattle.folding.specs.Cards.{lone, loop}
@@ -48,7 +49,7 @@ some-event : {G : Graph} {before : List ℕ} {u : ℕ} {h : History} → Searche
 some-event s = elim s [ ]
 
 pub idle-fails : Demand2 idle → ⊥
-unfolding at put edgesOf calls opening
+unfolding at put edgesOf afterOut tailOut listOut searchNumber openNumber calls opening
 idle-fails d = some-event (d .labelling lone 1 (0 ∷ []) three refl (single six ∷ []) .events refl)
 
 -- ---- the moves
@@ -60,7 +61,7 @@ abbrev pub eager : Walker
 eager = record { opens = opening; serves = λ w c. says taken 1 (rest w) w c }
 
 pub eager-fails : StepClaim eager → ⊥
-unfolding at put edgesOf walkEdges search depthFirst stepOf fits enact
+unfolding at put edgesOf walkEdges search depthFirst stepOf fits enact fieldsIn stepNumber
 eager-fails d = let z : _≡_ {A = ℕ} 3 2 = ap (λ (r : Reply). length (r .events)) (d .stepped (openedAt loop 1 (0 ∷ 0 ∷ [])) six refl) in omega arith
 
 -- ---- the run's tests
@@ -75,7 +76,7 @@ abbrev pub hasty : Walker
 hasty = record { opens = opening; serves = λ w c. says (ran spent) (perform w (shorter c) .steps) (perform w (shorter c) .events) (perform w (shorter c) .config) c }
 
 pub hasty-fails : RunClaim hasty → ⊥
-unfolding at put stepOf fits enact run
+unfolding at put stepOf fits enact run fieldsIn runNumber
 hasty-fails d = let e : ran spent ≡ ran stuck = d (openedAt loop 1 (0 ∷ 0 ∷ [])) 1 six refl .reason in (let z : _≡_ {A = ℕ} 0 1 = cc in omega arith)
 
 -- It says stuck on a sound state.
@@ -83,7 +84,7 @@ abbrev pub jammed : Walker
 jammed = record { opens = opening; serves = λ w c. says (ran stuck) 0 [] w c }
 
 pub jammed-fails : RunClaim jammed → ⊥
-unfolding at put stepOf fits
+unfolding at put stepOf fits fieldsIn runNumber
 jammed-fails d = clash (d (openedAt loop 1 (0 ∷ 0 ∷ [])) 1 six refl .jammed refl)
 
 -- ---- demand 3's total
@@ -92,7 +93,7 @@ abbrev pub inventor : Walker
 inventor = record { opens = opening; serves = λ w c. says (serve w c .answer) (suc (serve w c .steps)) (serve w c .events) (serve w c .config) c }
 
 pub inventor-fails : Agreement inventor → ⊥
-unfolding at put edgesOf walkEdges search depthFirst stepOf fits enact run serve calls opening
+unfolding at put edgesOf afterOut tailOut listOut searchNumber openNumber walkEdges search depthFirst stepOf fits enact fieldsIn stepNumber run serve calls opening
 inventor-fails d =
     let P = profile-sound lone 1 [] refl in
     let R : Ready (graphOf lone) [] 1 = profile-ready lone (P .sound) 1 (P .start-vertex) in
@@ -113,7 +114,7 @@ abbrev pair : Image
 pair = record { n = 2; m = 0; after = 0 ∷ 0 ∷ []; tail = [] }
 
 pub constant-fails : Demand2 constant → ⊥
-unfolding at put edgesOf walkEdges search depthFirst calls opening
+unfolding at put edgesOf afterOut tailOut listOut searchNumber openNumber walkEdges search depthFirst calls opening
 constant-fails d =
     let P = profile-sound pair 2 [] refl in
     let R : Ready (graphOf pair) [] 2 = profile-ready pair (P .sound) 2 (P .start-vertex) in
@@ -127,5 +128,5 @@ abbrev pub refuser : Walker
 refuser = record { opens = λ g start marks area. refusing 9 (unopened g start marks) area; serves = λ w c. refusing 9 w (areaOf c) }
 
 pub refuser-fails : Demand1 refuser → ⊥
-unfolding at put
+unfolding at put fieldsIn rollBackNumber
 refuser-fails d = d .call (openedAt lone 1 (0 ∷ [])) rollBack 9 refl

@@ -43,7 +43,7 @@ abbrev pub over : Config → Bool
 over w = eqb (w .phase) finished || (eqb (w .phase) rolledBack || eqb (w .phase) accepted)
 
 -- Every state field is in kind; else the number is 8.
-abbrev pub fieldsIn : Config → Bool
+unfoldable pub fieldsIn : Config → Bool
 fieldsIn w =
     isVertex (w .n) (w .v) && (isLink (w .n) (w .m) (w .e) && (isNode (w .n) (w .m) (w .f)
     && ((ltb 0 (w .phase) && leb (w .phase) 6) && ((leb 2 (w .next) && leb (w .next) (suc (w .n))) && leb (w .circular) 1))))
@@ -57,7 +57,7 @@ abbrev pub workAreas : Config → ℕ → List ℕ → List Lent
 workAreas w k area = lent (w .n + w .m) (w .after) ∷ lent (w .m) (w .tail) ∷ lent (w .n + w .m) (w .marks) ∷ lent k area ∷ []
 
 -- The number of a run, which is lent 6 words for each step of its budget: 1, 2, 3, 4, 8.
-abbrev pub runNumber : Config → ℕ → List ℕ → ℕ
+unfoldable pub runNumber : Config → ℕ → List ℕ → ℕ
 runNumber w k area = stateNumber w (workAreas w (6 * k) area) []
 
 -- A single step's own: 8 where a word that it reads is out of kind, 9 where there is none to come.
@@ -65,15 +65,15 @@ abbrev pub stepRefusals : Config → List Refusal
 stepRefusals w = refuse 8 (not (over w) && not (canStep w)) ∷ refuse 9 (over w) ∷ []
 
 -- The number of a single step, which is lent 6 words.
-abbrev pub stepNumber : Config → List ℕ → ℕ
+unfoldable pub stepNumber : Config → List ℕ → ℕ
 stepNumber w area = stateNumber w (workAreas w 6 area) (stepRefusals w)
 
 -- The number of a roll-back order (winding order): it is lent no areas; 9 where there is no step to come.
-abbrev pub rollBackNumber : Config → ℕ
+unfoldable pub rollBackNumber : Config → ℕ
 rollBackNumber w = stateNumber w [] (refuse 9 (over w) ∷ [])
 
 -- The number of accepting a state, with the panel's figure: 9 in phase 5 or 6, 10 in phase 1, 2 or 4, then 11.
-abbrev pub acceptNumber : Config → ℕ → ℕ
+unfoldable pub acceptNumber : Config → ℕ → ℕ
 acceptNumber w figure =
     stateNumber w [] (refuse 9 (eqb (w .phase) rolledBack || eqb (w .phase) accepted) ∷ refuse 10 (eqb (w .phase) walking || (eqb (w .phase) restoring || eqb (w .phase) rollingBack)) ∷ refuse 11 (figureOut figure) ∷ [])
 
@@ -143,7 +143,7 @@ abbrev pub unopened : Image → ℕ → List ℕ → Config
 unopened g start marks = record { n = g .n; m = g .m; start = start; v = 0; e = 0; f = 0; phase = 0; next = 0; circular = 0; after = g .after; tail = g .tail; marks = marks }
 
 -- The number of an opening: it is lent marks and three words for its event.
-abbrev pub openNumber : Image → ℕ → List ℕ → List ℕ → ℕ
+unfoldable pub openNumber : Image → ℕ → List ℕ → List ℕ → ℕ
 openNumber g start marks area = searchNumber g start (lent (g .n + g .m) marks ∷ lent 3 area ∷ [])
 
 -- What an opening leaves: the marks are cleared and the start is labelled.

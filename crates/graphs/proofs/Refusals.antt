@@ -10,7 +10,7 @@ use lib.ListN.{length}
 use lib.Dec.{ltb}
 use borrow.Author.Tests.{eqb-false, ltb-false}
 use Rattle.lists.proofs.Tests.{clash, neither}
-use Rattle.graphs.specs.Refusals.{Refusal, refuse, firstOf, verticesOut, edgesOut, vertexOut, afterOut, tailOut, listOut, Lent, lent, short, imageAreas}
+use Rattle.graphs.specs.Refusals.{Refusal, refuse, firstOf, verticesOut, edgesOut, vertexOut, afterOut, tailOut, listOut, Lent, lent, short, imageAreas, sound, searchNumber}
 use Rattle.graphs.specs.Claims.{SoundClaim}
 
 -- No number is 0.
@@ -50,4 +50,5 @@ none-true false false false false false false true = (λ q. absurd (eqb-false 7 
 none-true false false false false false false false = (λ q. (refl, refl), λ q. refl)
 
 pub taken-sound : SoundClaim
+unfolding sound searchNumber
 taken-sound g start areas = none-true (verticesOut (g .n)) (edgesOut (g .m)) (short (imageAreas g ++ areas)) (vertexOut (g .n) start) (afterOut g) (tailOut (g .n) (g .m) (g .tail)) (listOut g)

@@ -18,7 +18,7 @@ use Rattle.lists.proofs.Counts.{count-append, count-mem, mem-count, count-once,
 use Rattle.graphs.specs.Nodes.{Vertex, Edge, isVertex, isLink}
 use Rattle.graphs.specs.Graph.{Closed, met}
 use Rattle.graphs.specs.Image.{Image, chain, lookedFor, edgesOf, to, graphOf, listsTo}
-use Rattle.graphs.specs.Refusals.{Refusal, refuse, firstOf, Lent, lent, short, verticesOut, edgesOut, vertexOut, sizeRefusals, imageAreas, imageRefusals, imageNumber, searchNumber}
+use Rattle.graphs.specs.Refusals.{Refusal, refuse, firstOf, Lent, lent, short, verticesOut, edgesOut, vertexOut, afterOut, tailOut, listOut, sizeRefusals, imageAreas, imageRefusals, imageNumber, searchNumber}
 use Rattle.graphs.proofs.Nodes.{vertex-is, link-not-null}
 use Rattle.graphs.proofs.Labels.{Labels}
 use Rattle.graphs.proofs.Refusals.{AllFalse, all-false, long}
@@ -129,6 +129,7 @@ module _ (g : Image) where
 
   -- ---- the tests give it
   sound-of : verticesOut (g .n) ≡ false → edgesOut (g .m) ≡ false → g .n + g .m ≤ length (g .after) → g .m ≤ length (g .tail) → firstOf (imageRefusals g) ≡ 0 → Sound g
+  unfolding afterOut tailOut listOut
   sound-of hn hm la lt h =
       record {
         few-vertices = ltb-false 1000 (g .n) (neither (eqb (g .n) 0) (ltb 1000 (g .n)) hn .1);
@@ -199,6 +200,7 @@ module _ (g : Image) (areas : List Lent) (own : List Refusal) (h : firstOf (size
   sized-sound = sound-of g (sizes .0 .0) (sizes .0 .1 .0) (after-long .0) (tail-long .0)
 
 pub image-sound : (g : Image) (areas : List Lent) → imageNumber g areas ≡ 0 → Sound g × (short areas ≡ false)
+unfolding imageNumber
 image-sound g areas h = (sized-sound g areas (imageRefusals g) h (sizes g areas (imageRefusals g) h .1), tail-long g areas (imageRefusals g) h .1)
 
 -- A profile that is not refused: a sound image, a start in it, areas long enough.
@@ -208,6 +210,7 @@ pub record Profile (g : Image) (start : ℕ) (areas : List Lent) : Type 0 where
   pub areas-long : short areas ≡ false
 
 pub profile-sound : (g : Image) (start : ℕ) (areas : List Lent) → searchNumber g start areas ≡ 0 → Profile g start areas
+unfolding searchNumber
 profile-sound g start areas h =
     let own = refuse 4 (vertexOut (g .n) start) ∷ imageRefusals g in
     let z = all-false (refuse 4 (vertexOut (g .n) start) ∷ []) (imageRefusals g) (omega arith) (sizes g areas own h .1) in

@@ -41,7 +41,7 @@ abbrev pub vertexOut : ℕ → ℕ → Bool
 vertexOut n x = not (isVertex n x)
 
 -- 5: an after word is neither 0 nor a reference.
-abbrev pub afterOut : Image → Bool
+unfoldable pub afterOut : Image → Bool
 afterOut g = not (allTo (λ x. isLink (g .n) (g .m) (at 0 (g .after) x)) (g .n + g .m))
 
 -- 5, for the array form: a first position breaks its rule.
@@ -49,11 +49,11 @@ abbrev pub firstOut : ArrayForm → Bool
 firstOut a = not (inOrder a)
 
 -- 6: a tail is not in 1 to n.
-abbrev pub tailOut : ℕ → ℕ → List ℕ → Bool
+unfoldable pub tailOut : ℕ → ℕ → List ℕ → Bool
 tailOut n m tails = not (allTo (λ k. isVertex n (at 0 tails k)) m)
 
 -- 7: a reference is not on exactly one list, once.
-abbrev pub listOut : Image → Bool
+unfoldable pub listOut : Image → Bool
 listOut g = not (allTo (λ k. eqb (countIn (g .n + k) (listsTo g (g .n))) 1) (g .m))
 
 -- 11: the figure is 999,999 or more.
@@ -78,15 +78,15 @@ abbrev pub imageRefusals : Image → List Refusal
 imageRefusals g = refuse 5 (afterOut g) ∷ refuse 6 (tailOut (g .n) (g .m) (g .tail)) ∷ refuse 7 (listOut g) ∷ []
 
 -- A profile is sound where conditions 1, 2 and 4 to 7 are false of it and its start.
-abbrev pub sound : Image → ℕ → Bool
+unfoldable pub sound : Image → ℕ → Bool
 sound g start = not (verticesOut (g .n) || (edgesOut (g .m) || (vertexOut (g .n) start || (afterOut g || (tailOut (g .n) (g .m) (g .tail) || listOut g)))))
 
 -- The number of a checker or converter of a linked image; `areas` are those lent besides the image.
-abbrev pub imageNumber : Image → List Lent → ℕ
+unfoldable pub imageNumber : Image → List Lent → ℕ
 imageNumber g areas = firstOf (sizeRefusals (g .n) (g .m) (imageAreas g ++ areas) ++ imageRefusals g)
 
 -- The number of a search of a linked image, or of the opening of one.
-abbrev pub searchNumber : Image → ℕ → List Lent → ℕ
+unfoldable pub searchNumber : Image → ℕ → List Lent → ℕ
 searchNumber g start areas = firstOf (sizeRefusals (g .n) (g .m) (imageAreas g ++ areas) ++ refuse 4 (vertexOut (g .n) start) ∷ imageRefusals g)
 
 -- The areas of an array form: n + 1 first positions and m tails.
@@ -94,5 +94,5 @@ abbrev pub arrayAreas : ArrayForm → List Lent
 arrayAreas a = lent (a .n + 1) (a .firsts) ∷ lent (a .m) (a .tails) ∷ []
 
 -- The number of a search of an array form from an element, or of a query of one.
-abbrev pub arrayNumber : ArrayForm → ℕ → List Lent → ℕ
+unfoldable pub arrayNumber : ArrayForm → ℕ → List Lent → ℕ
 arrayNumber a x areas = firstOf (sizeRefusals (a .n) (a .m) (arrayAreas a ++ areas) ++ refuse 4 (vertexOut (a .n) x) ∷ refuse 5 (firstOut a) ∷ refuse 6 (tailOut (a .n) (a .m) (a .tails)) ∷ [])
