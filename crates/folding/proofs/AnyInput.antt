@@ -19,7 +19,7 @@ use Rattle.graphs.proofs.Room.{words-length}
 use Rattle.folding.specs.Machine.{Config, rollingBack, canStep, step}
 use Rattle.folding.specs.Calls.{Reason, Answer, ran, taken, refused, Reply, refusing, unless, fieldsIn, stateNumber, workAreas, runNumber, stepRefusals, stepNumber, inPhase, run, Call, runFor, single, rollBack, areaOf, numberOf, perform, serve, unopened, openNumber, openedAt, openReply, opening}
 use Rattle.folding.specs.Lines.{folded}
-use Rattle.folding.specs.Claims.{Judged, Within, Confined, Demand1, StepClaim, Tested, RunClaim}
+use Rattle.folding.specs.Claims.{Judged, Within, Confined, Demand1, StepClaim, Tested, toldRun, RunClaim}
 use Rattle.folding.proofs.Fields.{Fields, fields-are}
 use Rattle.folding.proofs.Confined.{within-refl, Kept, step-kept, RunKept, run-kept}
 use Rattle.folding.proofs.Runs.{run-stops}
@@ -143,12 +143,6 @@ steps-as-defined = record {
   ordered = λ w h. ap (λ (k : ℕ). unless k w [] (perform w rollBack)) h;
 }
 
-reason-of : {x y : Reason} → ran x ≡ ran y → x ≡ y
-reason-of e = cc
-
-run-tested : (w : Config) (k : ℕ) (area : List ℕ) → Tested w k (perform w (runFor k area))
-run-tested w k area = let S = run-stops k w in record { made = S .made; each = S .each; budget = S .budget; reason = ap ran (S .reason); jammed = λ e. S .jammed (reason-of e) }
-
 pub run-tests : RunClaim folded
 unfolding serve
-run-tests w k area h = subst (λ (x : ℕ). Tested w k (unless x w area (perform w (runFor k area)))) (sym h) (run-tested w k area)
+run-tests w k area h = (run k w .reason, subst (λ (x : ℕ). unless x w area (perform w (runFor k area)) .answer ≡ ran (run k w .reason)) (sym h) refl, subst (λ (x : ℕ). Tested w k (toldRun (run k w .reason) (unless x w area (perform w (runFor k area))))) (sym h) (run-stops k w))

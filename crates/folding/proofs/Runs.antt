@@ -3,29 +3,22 @@
 use mathlib.Core.Path.{_≡_, refl, sym, ap, _∙_}
 use mathlib.Core.Bool.{Bool, true, false, cond}
 use mathlib.Core.List.{List, _++_, append-assoc}
-use Prim.Native.Nat.{ℕ, zero, suc, _+_, _≤_, _<_}
+use Prim.Native.Nat.{ℕ, zero, suc, _+_, _<_}
 use native.Mathlib.Omega.{arith}
 use lib.Dec.{eqb·suc-suc}
 use borrow.Author.Tests.{ne-eqb}
 use Rattle.graphs.specs.Events.{Event}
 use Rattle.folding.specs.Machine.{Config, Stepped, canStep, step}
 use Rattle.folding.specs.Calls.{Reason, ended, spent, stuck, over, Run, stop, onward, proceed, run}
-use Rattle.folding.specs.Claims.{stopReason, stepsFrom, joined, ComposeClaim}
+use Rattle.folding.specs.Claims.{stopReason, stepsFrom, Tested, joined, ComposeClaim}
 
 -- ---- why a run stops
-pub record Stops (w : Config) (k : ℕ) (r : Run) : Type 0 where
-  pub made : stepsFrom (r .steps) w ≡ record { config = r .config; events = r .events }
-  pub each : (j : ℕ) → j < r .steps → (over (stepsFrom j w .config) ≡ false) × (canStep (stepsFrom j w .config) ≡ true)
-  pub budget : r .steps ≤ k
-  pub reason : r .reason ≡ stopReason k (r .steps) (r .config)
-  pub jammed : r .reason ≡ stuck → canStep (r .config) ≡ false
-
 -- No step is made.
-stops-now : (w : Config) (k : ℕ) (why : Reason) → why ≡ stopReason k 0 w → (why ≡ stuck → canStep w ≡ false) → Stops w k (stop why w)
+stops-now : (w : Config) (k : ℕ) (why : Reason) → why ≡ stopReason k 0 w → (why ≡ stuck → canStep w ≡ false) → Tested w k (stop why w)
 stops-now w k why e j = record { made = refl; each = λ i h. absurd (omega arith); budget = omega arith; reason = e; jammed = j }
 
 -- One step is made, and then a run.
-stops-later : (w : Config) (k : ℕ) (r : Run) → over w ≡ false → canStep w ≡ true → Stops (step w .config) k r → Stops w (suc k) (onward (step w .events) r)
+stops-later : (w : Config) (k : ℕ) (r : Run) → over w ≡ false → canStep w ≡ true → Tested (step w .config) k r → Tested w (suc k) (onward (step w .events) r)
 stops-later w k r o c S = record {
   made = ap (λ (s : Stepped). record { config = s .config; events = step w .events ++ s .events }) (S .made);
   each = each;
@@ -38,16 +31,16 @@ stops-later w k r o c S = record {
     each zero h = (o, c)
     each (suc j) h = S .each j (omega arith)
 
-pub run-stops : (k : ℕ) (w : Config) → Stops w k (run k w)
+pub run-stops : (k : ℕ) (w : Config) → Tested w k (run k w)
 unfolding run
 run-stops zero w = go (over w) refl
   where
-    go : (b : Bool) → over w ≡ b → Stops w zero (stop (cond (over w) ended spent) w)
+    go : (b : Bool) → over w ≡ b → Tested w zero (stop (cond (over w) ended spent) w)
     go true e = stops-now w zero (cond (over w) ended spent) (rw e) (rw e (λ q. absurd (let z : _≡_ {A = ℕ} 0 1 = cc in omega arith)))
     go false e = stops-now w zero (cond (over w) ended spent) (rw e) (rw e (λ q. absurd (let z : _≡_ {A = ℕ} 0 1 = cc in omega arith)))
 run-stops (suc k) w = go (over w) (canStep w) refl refl (run-stops k (step w .config))
   where
-    go : (a b : Bool) → over w ≡ a → canStep w ≡ b → Stops (step w .config) k (run k (step w .config)) → Stops w (suc k) (proceed (run k) a b w)
+    go : (a b : Bool) → over w ≡ a → canStep w ≡ b → Tested (step w .config) k (run k (step w .config)) → Tested w (suc k) (proceed (run k) a b w)
     go true b e f ih = stops-now w (suc k) ended (rw e) (λ q. absurd (let z : _≡_ {A = ℕ} 0 1 = cc in omega arith))
     go false false e f ih = stops-now w (suc k) stuck (rw (e, ne-eqb 0 (suc k) (omega arith))) (λ q. f)
     go false true e f ih = stops-later w k (run k (step w .config)) e f ih

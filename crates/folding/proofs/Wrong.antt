@@ -1,6 +1,6 @@
 -- The wrong walkers of document 01 c, over the same interface as ours; each fails the claim that is named beside it there.
 -- One small profile each, on which the claim computes to something false.
-use mathlib.Core.Path.{_≡_, refl, ap}
+use mathlib.Core.Path.{_≡_, refl, sym, ap, _∙_}
 use mathlib.Core.Bool.{cond}
 use mathlib.Core.List.{List, [], _∷_}
 use Prim.Native.Nat.{ℕ, zero, suc}
@@ -21,7 +21,7 @@ use Rattle.graphs.proofs.Depth.{depth-first}
 use Rattle.graphs.proofs.Room.{profile-ready}
 use Rattle.graphs.specs.Refusals.{afterOut, tailOut, listOut, searchNumber}
 use Rattle.folding.specs.Machine.{Config, finished, stepOf, fits, enact}
-use Rattle.folding.specs.Calls.{ended, spent, stuck, Answer, ran, taken, Reply, refusing, inPhase, Call, runFor, single, rollBack, areaOf, run, perform, serve, unopened, openedAt, opening, openNumber, fieldsIn, runNumber, stepNumber, rollBackNumber}
+use Rattle.folding.specs.Calls.{Reason, ended, spent, stuck, Answer, ran, taken, Reply, refusing, inPhase, Call, runFor, single, rollBack, areaOf, run, perform, serve, unopened, openedAt, opening, openNumber, fieldsIn, runNumber, stepNumber, rollBackNumber}
 use Rattle.folding.specs.Lines.{Walker, lineA, calls}
 use Rattle.folding.specs.Claims.{Demand1, StepClaim, RunClaim, Demand2, Agreement}
 use Rattle.folding.specs.Cards.{lone, loop}
@@ -77,15 +77,23 @@ hasty = record { opens = opening; serves = λ w c. says (ran spent) (perform w (
 
 pub hasty-fails : RunClaim hasty → ⊥
 unfolding at put stepOf fits enact run fieldsIn runNumber
-hasty-fails d = let e : ran spent ≡ ran stuck = d (openedAt loop 1 (0 ∷ 0 ∷ [])) 1 six refl .reason in (let z : _≡_ {A = ℕ} 0 1 = cc in omega arith)
+hasty-fails d =
+    let (why, says-why, t) = d (openedAt loop 1 (0 ∷ 0 ∷ [])) 1 six refl in
+    let e : ran spent ≡ ran stuck = says-why ∙ ap ran (t .reason) in
+    (let z : _≡_ {A = ℕ} 0 1 = cc in omega arith)
 
 -- It says stuck on a sound state.
 abbrev pub jammed : Walker
 jammed = record { opens = opening; serves = λ w c. says (ran stuck) 0 [] w c }
 
+reason-of : {x y : Reason} → ran x ≡ ran y → x ≡ y
+reason-of e = cc
+
 pub jammed-fails : RunClaim jammed → ⊥
 unfolding at put stepOf fits fieldsIn runNumber
-jammed-fails d = clash (d (openedAt loop 1 (0 ∷ 0 ∷ [])) 1 six refl .jammed refl)
+jammed-fails d =
+    let (why, says-why, t) = d (openedAt loop 1 (0 ∷ 0 ∷ [])) 1 six refl in
+    clash (t .jammed (reason-of (sym says-why)))
 
 -- ---- demand 3's total
 -- It invents its steps: one more than it makes.

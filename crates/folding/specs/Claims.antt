@@ -69,17 +69,21 @@ stepsFrom zero w = record { config = w; events = [] }
 stepsFrom (suc k) w = record { config = stepsFrom k (step w .config) .config; events = step w .events ++ stepsFrom k (step w .config) .events }
 
 -- A run from w with a budget of k: it makes the steps of the definition, as many as it says and at most k, each one to come and in kind;
--- its reason is that of the tests; it says stuck only where the step to come is out of kind.
-pub record Tested (w : Config) (k : ℕ) (r : Reply) : Type 0 where
+-- its reason is that of the tests; it is stuck only where the step to come is out of kind.
+pub record Tested (w : Config) (k : ℕ) (r : Run) : Type 0 where
   pub made : stepsFrom (r .steps) w ≡ record { config = r .config; events = r .events }
   pub each : (j : ℕ) → j < r .steps → (over (stepsFrom j w .config) ≡ false) × (canStep (stepsFrom j w .config) ≡ true)
   pub budget : r .steps ≤ k
-  pub reason : r .answer ≡ ran (stopReason k (r .steps) (r .config))
-  pub jammed : r .answer ≡ ran stuck → canStep (r .config) ≡ false
+  pub reason : r .reason ≡ stopReason k (r .steps) (r .config)
+  pub jammed : r .reason ≡ stuck → canStep (r .config) ≡ false
+
+-- The run that a reply tells of, with its reason.
+abbrev pub toldRun : Reason → Reply → Run
+toldRun why r = record { reason = why; steps = r .steps; events = r .events; config = r .config }
 
 -- Every run that is not refused.
 abbrev pub RunClaim : Walker → Type 0
-RunClaim W = (w : Config) (k : ℕ) (area : List ℕ) → runNumber w k area ≡ 0 → Tested w k (W .serves w (runFor k area))
+RunClaim W = (w : Config) (k : ℕ) (area : List ℕ) → runNumber w k area ≡ 0 → (why : Reason) × (W .serves w (runFor k area) .answer ≡ ran why) × Tested w k (toldRun why (W .serves w (runFor k area)))
 
 -- The runs r and then s, as one.
 abbrev pub joined : Run → Run → Run
