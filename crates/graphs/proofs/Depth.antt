@@ -8,16 +8,17 @@ use Prim.Native.Nat.{ℕ, zero, suc, _+_, _*_, _≤_}
 use native.Mathlib.Omega.{arith}
 use lib.ListN.{length}
 use lib.Dec.{eqb}
-use Rattle.lists.specs.Members.{Mem, here, there, memb}
+use Rattle.lists.specs.Members.{Mem, memb}
 use Rattle.lists.specs.Counts.{bump, countIn, sumOf}
-use Rattle.lists.proofs.Members.{mem-nil, each-cons, mem-left, mem-append, mem-right, memb-true, memb-false, nodup-left, nodup-apart}
+use Rattle.lists.proofs.Members.{mem-nil, each-cons, mem-left, mem-append, memb-true, memb-false, nodup-left, nodup-apart}
 use Rattle.lists.proofs.Counts.{count-sum, sum-same}
-use Rattle.graphs.specs.Graph.{Graph, Closed, Leads, stays, along, Reached, met}
+use Rattle.graphs.specs.Graph.{Graph, Closed, Leads, stays, Reached, met}
 use Rattle.graphs.specs.Events.{event, label, advance-tree, retreat-tree, scan, History, _▸_, known, labelled, scanned, traversed}
 use Rattle.graphs.specs.Depth.{Searches, searches, Traverses, none, tree, nontree, DepthFirst}
 use Rattle.graphs.specs.Search.{recorder, cross, walkEdges, search, depthFirst}
 use Rattle.graphs.specs.Claims.{Ready, DepthClaim, DepthFirstClaim}
 use Rattle.graphs.proofs.Labels.{Labels, Done, reached-counts, reached-exactly}
+use Rattle.graphs.proofs.Follow.{Keeps, follow-search}
 use Rattle.graphs.proofs.DepthGrowth.{Can, CanWalk, can-walk, can-cross, no-fuel, Labelled, search-labels, search-same, next-walk}
 use Rattle.graphs.proofs.DepthCounts.{depth-balance}
 
@@ -60,21 +61,11 @@ module _ (G : Graph) (before : List ℕ) (C : Closed G) where
   search-relates (suc k) u h c = searches (walk-relates k (search-relates k) u (G .out u) (h ▸ event label 0 u) (can-walk G before C k u h c))
 
 -- ---- only what a path leads to
-module _ (G : Graph) (before : List ℕ) (start : ℕ) where
-  abbrev OnlyReached : History → Type 0
-  OnlyReached h = (x : ℕ) → Mem x (labelled h) → Leads G before start x
+abbrev OnlyReached : Graph → List ℕ → ℕ → History → Type 0
+OnlyReached G before start h = (x : ℕ) → Mem x (labelled h) → Leads G before start x
 
-  reached-more : (u : ℕ) (h : History) → Leads G before start u → OnlyReached h → OnlyReached (h ▸ event label 0 u)
-  reached-more u h l a = each-cons (Leads G before start) u (labelled h) l a
-
-  mutual
-    search-only : {u : ℕ} {h i : History} → Searches G before u h i → Leads G before start u → OnlyReached h → OnlyReached i
-    search-only (searches {u} {h} t) l a = walk-only t l (λ r m. m) (reached-more u h l a)
-
-    walk-only : {u : ℕ} {rs : List ℕ} {h i : History} → Traverses G before u rs h i → Leads G before start u → ((r : ℕ) → Mem r rs → Mem r (G .out u)) → OnlyReached h → OnlyReached i
-    walk-only none l sub a = a
-    walk-only (tree {u} {r} {rs} {h} n s t) l sub a = walk-only t l (λ x m. sub x (there m)) (search-only s (along r l (sub r (here refl)) refl (λ m. n (mem-right (labelled h) m))) a)
-    walk-only (nontree m t) l sub a = walk-only t l (λ x q. sub x (there q)) a
+only-reached : (G : Graph) (before : List ℕ) (start : ℕ) → Keeps G before start (OnlyReached G before start)
+only-reached G before start = record { labels = λ u h l a. each-cons (Leads G before start) u (labelled h) l a; advances = λ u r h l n a. a; retreats = λ u r h a. a; passes = λ u r h a. a; scans = λ u h a. a }
 
 -- ---- the claim
 module _ (G : Graph) (before : List ℕ) (start : ℕ) (R : Ready G before start) where
@@ -115,7 +106,7 @@ module _ (G : Graph) (before : List ℕ) (start : ℕ) (R : Ready G before start
   depth-reached =
       reached-exactly G before start (labelled whole) depth-start depth-done
       (nodup-left (labelled whole) before (depth-labels .once))
-      (search-only G before start depth-relates (stays refl) (λ x m. absurd (mem-nil m)))
+      (follow-search (only-reached G before start) depth-relates (stays refl) (λ x m. absurd (mem-nil m)))
 
   -- For any weight, what is scanned weighs what is labelled, so it is the same.
   pub depth-scanned : Reached G before start (scanned whole)

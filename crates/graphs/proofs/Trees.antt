@@ -12,14 +12,15 @@ use Rattle.lists.specs.Members.{Mem, here, there}
 use Rattle.lists.specs.Counts.{rank}
 use Rattle.lists.proofs.Tests.{clash}
 use Rattle.lists.proofs.Counts.{rank-none}
-use Rattle.lists.proofs.Members.{mem-reverse, mem-left, mem-right, mem-memb, memb-of-not}
-use Rattle.graphs.specs.Graph.{Graph, Leads, stays, along}
+use Rattle.lists.proofs.Members.{mem-reverse, mem-left, mem-memb, memb-of-not}
+use Rattle.graphs.specs.Graph.{Graph, Leads, stays}
 use Rattle.graphs.specs.Events.{event, advance-tree, History, same, labelled, known}
-use Rattle.graphs.specs.Depth.{Searches, searches, Traverses, none, tree, nontree}
+use Rattle.graphs.specs.Depth.{Searches, searches}
 use Rattle.graphs.specs.Search.{depthFirst}
 use Rattle.graphs.specs.Results.{lastTree, entry, parentWord, incrementWord}
 use Rattle.graphs.specs.Claims.{Ready}
 use Rattle.graphs.proofs.Labels.{leads-vertex}
+use Rattle.graphs.proofs.Follow.{Keeps, follow-walk}
 use Rattle.graphs.proofs.Depth.{depth-relates, depth-reached}
 
 -- P holds of every tree advance.
@@ -45,22 +46,23 @@ module _ (G : Graph) (before : List ℕ) (start : ℕ) where
   abbrev Into : ℕ → ℕ → Type 0
   Into r u = Leads G before start (G .to r) × (G .to r ≡ start → ⊥)
 
+  -- Once the start is labelled, every tree edge leads to another vertex.
   record Trees (h : History) : Type 0 where
     trees : AllTrees Into h
     started : Mem start (labelled h)
 
-  mutual
-    search-trees : {u : ℕ} {h i : History} → Searches G before u h i → Leads G before start u → Mem start (u ∷ labelled h) → AllTrees Into h → Trees i
-    search-trees (searches {u} {h} t) l m a = let T = walk-trees t l (λ r q. q) (record { trees = (λ e. clash (sym e), a); started = m }) in record { trees = (λ e. clash (sym e), T .trees); started = T .started }
+  keeps-trees : Keeps G before start Trees
+  keeps-trees = record {
+    labels = λ u h l T. record { trees = (λ e. clash (sym e), T .trees); started = there (T .started) };
+    advances = λ u r h l n T. record { trees = (λ e. (l, λ q. n (subst (λ (x : ℕ). Mem x (known before h)) (sym q) (mem-left before (T .started)))), T .trees); started = T .started };
+    retreats = λ u r h T. record { trees = (λ e. clash (sym e), T .trees); started = T .started };
+    passes = λ u r h T. record { trees = (λ e. clash (sym e), (λ e. clash (sym e), T .trees)); started = T .started };
+    scans = λ u h T. record { trees = (λ e. clash (sym e), T .trees); started = T .started };
+  }
 
-    walk-trees : {u : ℕ} {rs : List ℕ} {h i : History} → Traverses G before u rs h i → Leads G before start u → ((r : ℕ) → Mem r rs → Mem r (G .out u)) → Trees h → Trees i
-    walk-trees none l sub T = T
-    walk-trees (tree {u} {r} {rs} {h} n s t) l sub T =
-        let to : Leads G before start (G .to r) = along r l (sub r (here refl)) refl (λ m. n (mem-right (labelled h) m)) in
-        let not-start : G .to r ≡ start → ⊥ = λ e. n (subst (λ (x : ℕ). Mem x (known before h)) (sym e) (mem-left before (T .started))) in
-        let S = search-trees s to (there (T .started)) (λ e. (to, not-start), T .trees) in
-        walk-trees t l (λ x m. sub x (there m)) (record { trees = (λ e. clash (sym e), S .trees); started = S .started })
-    walk-trees (nontree m t) l sub T = walk-trees t l (λ x q. sub x (there q)) (record { trees = (λ e. clash (sym e), (λ e. clash (sym e), T .trees)); started = T .started })
+  -- The search labels the start first.
+  search-trees : {i : History} → Searches G before start [] i → Trees i
+  search-trees (searches {i = j} t) = keeps-trees .scans start j (follow-walk keeps-trees t (stays refl) (λ r m. m) (record { trees = (λ e. clash (sym e), tt); started = here refl }))
 
   -- All events.
   abbrev whole : History
@@ -68,7 +70,7 @@ module _ (G : Graph) (before : List ℕ) (start : ℕ) where
 
   module _ (R : Ready G before start) where
     trees : AllTrees Into whole
-    trees = search-trees (depth-relates G before start R) (stays refl) (here refl) tt .trees
+    trees = search-trees (depth-relates G before start R) .trees
 
     -- No tree edge leads to the start, or to what is not reached.
     no-entry : (x : ℕ) → (Leads G before start x → x ≡ start) → entry G whole x ≡ (0, 0)
