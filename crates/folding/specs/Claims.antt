@@ -68,8 +68,7 @@ abbrev pub stepsFrom : ℕ → Config → Stepped
 stepsFrom zero w = record { config = w; events = [] }
 stepsFrom (suc k) w = record { config = stepsFrom k (step w .config) .config; events = step w .events ++ stepsFrom k (step w .config) .events }
 
--- A run from w with a budget of k: it makes the steps of the definition, as many as it says and at most k, each one to come and in kind;
--- its reason is that of the tests; it is stuck only where the step to come is out of kind.
+-- A run from w with a budget of k: the steps of the definition, as many as it says, each to come and in kind; its reason is that of the tests.
 pub record Tested (w : Config) (k : ℕ) (r : Run) : Type 0 where
   pub made : stepsFrom (r .steps) w ≡ record { config = r .config; events = r .events }
   pub each : (j : ℕ) → j < r .steps → (over (stepsFrom j w .config) ≡ false) × (canStep (stepsFrom j w .config) ≡ true)

@@ -7,8 +7,7 @@ use Rattle.lists.specs.Words.{at, put, cleared}
 use Rattle.graphs.specs.Nodes.{isVertex, isEdge, isLink, isNode}
 use Rattle.graphs.specs.Events.{Event, event, label, advance-tree, advance-nontree, retreat-nontree, retreat-tree, scan}
 
--- A state, with the links and marks that it works on: v is the element being scanned, e the reference next to traverse or 0,
--- f the trailer, `next` the next label number.
+-- A state with its links and marks: v the element being scanned, e the reference next to traverse or 0, f the trailer, next the next label number.
 pub record Config : Type 0 where
   pub n : ℕ
   pub m : ℕ
