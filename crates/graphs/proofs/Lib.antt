@@ -2,6 +2,7 @@ pub mod Nodes
 pub mod Labels
 pub mod Refusals
 pub mod Sound
+pub mod Arrays
 pub mod Follow
 pub mod DepthGrowth
 pub mod DepthCounts

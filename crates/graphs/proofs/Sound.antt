@@ -8,13 +8,13 @@ use Prim.Native.Nat.{ℕ, zero, suc, _+_, _-_, _≤_, _<_}
 use native.Mathlib.Omega.{arith}
 use lib.ListN.{length, getD, length-append}
 use lib.Dec.{eqb, ltb, leb}
-use borrow.Author.Tests.{eqb-true, ltb-false, le-leb, lt-leb, not-false}
+use borrow.Author.Tests.{ltb-false, le-leb, lt-leb, not-false}
 use Rattle.lists.specs.Members.{Mem, here, there, NoDup, memb}
 use Rattle.lists.specs.Counts.{countIn}
 use Rattle.lists.specs.Words.{at}
 use Rattle.lists.proofs.Tests.{neither, Compared, equal, other, compare}
 use Rattle.lists.proofs.Members.{mem-nil, each-cons, mem-append, memb-true, memb-false, append-nodup, pigeonhole}
-use Rattle.lists.proofs.Counts.{count-append, count-mem, mem-count, count-once, all-at}
+use Rattle.lists.proofs.Counts.{count-append, count-mem, mem-count, count-once, all-at, all-counted}
 use Rattle.graphs.specs.Nodes.{Vertex, Edge, isVertex, isLink}
 use Rattle.graphs.specs.Graph.{Closed, met}
 use Rattle.graphs.specs.Image.{Image, chain, lookedFor, edgesOf, to, graphOf, listsTo}
@@ -117,10 +117,22 @@ module _ (g : Image) where
       go false e ih = ih (let ne : u ≡ suc k → ⊥ = λ z. memb-false r (edgesOf g (suc k)) e (subst (λ (y : ℕ). Mem r (edgesOf g y)) z m) in omega arith)
 
   -- ---- lists
-  -- Where every after word is a link, a list holds edges.
-  edges-in : ((x : ℕ) → 0 < x → x ≤ g .n + g .m → isLink (g .n) (g .m) (at 0 (g .after) x) ≡ true) → (u r : ℕ) → Vertex (g .n) u → Mem r (edgesOf g u) → Edge (g .n) (g .m) r
+  -- Where 5 is false, every after word is a link, and a list holds edges.
+  pub links-in : afterOut g ≡ false → (x : ℕ) → 0 < x → x ≤ g .n + g .m → isLink (g .n) (g .m) (at 0 (g .after) x) ≡ true
+  unfolding afterOut
+  links-in h = all-at (λ x. isLink (g .n) (g .m) (at 0 (g .after) x)) (g .n + g .m) (not-false _ h)
+
+  edges-in : afterOut g ≡ false → (u r : ℕ) → Vertex (g .n) u → Mem r (edgesOf g u) → Edge (g .n) (g .m) r
   unfolding edgesOf
-  edges-in h u r hu m = chain-edges (g .n) (g .m) (g .after) h (lookedFor g) (at 0 (g .after) u) (h u (hu .0) (omega arith)) r m
+  edges-in h u r hu m = chain-edges (g .n) (g .m) (g .after) (links-in h) (lookedFor g) (at 0 (g .after) u) (links-in h u (hu .0) (omega arith)) r m
+
+  pub lists-edges : afterOut g ≡ false → (k : ℕ) → k ≤ g .n → (r : ℕ) → Mem r (listsTo g k) → Edge (g .n) (g .m) r
+  lists-edges h k q r m = let o = lists-member r k m in edges-in h (o .vertex) r (o .low, omega (arith, o .high)) (o .on)
+
+  -- Where 7 is false, every edge is counted once.
+  pub counted : listOut g ≡ false → (r : ℕ) → Edge (g .n) (g .m) r → countIn r (listsTo g (g .n)) ≡ 1
+  unfolding listOut
+  counted h r e = all-counted (g .n) (g .m) (listsTo g (g .n)) (not-false _ h) r (e .0) (e .1)
 
   -- A list of at most m edges has come to its end.
   list-linked : (u : ℕ) → length (edgesOf g u) ≤ g .m → (at 0 (g .after) u ≡ head0 (edgesOf g u)) × Linked (g .after) (edgesOf g u)
@@ -129,7 +141,7 @@ module _ (g : Image) where
 
   -- ---- the tests give it
   sound-of : verticesOut (g .n) ≡ false → edgesOut (g .m) ≡ false → g .n + g .m ≤ length (g .after) → g .m ≤ length (g .tail) → firstOf (imageRefusals g) ≡ 0 → Sound g
-  unfolding afterOut tailOut listOut
+  unfolding tailOut
   sound-of hn hm la lt h =
       record {
         few-vertices = ltb-false 1000 (g .n) (neither (eqb (g .n) 0) (ltb 1000 (g .n)) hn .1);
@@ -137,7 +149,7 @@ module _ (g : Image) where
         owner = ownerOf;
         own-self = λ u hu. ap (λ (b : Bool). cond b u (find u (g .n))) (le-leb u (g .n) (hu .1));
         own-edge = owns;
-        listed = λ r e. listed r (lists-member r (g .n) (mem-count r (listsTo g (g .n)) (let c = counted r e in omega arith)));
+        listed = λ r e. listed r (lists-member r (g .n) (mem-count r (listsTo g (g .n)) (let c = single r e in omega arith)));
         edge = edges;
         target = λ r e. vertex-is (g .n) (to g r) (subst (λ (x : ℕ). isVertex (g .n) x ≡ true) (place r e) (all-at (λ k. isVertex (g .n) (at 0 (g .tail) k)) (g .m) (not-false _ (tests .1 .0)) (r - g .n) (let z = e in omega arith) (let z = e in omega arith)));
         once = nodup;
@@ -150,26 +162,21 @@ module _ (g : Image) where
       tests : AllFalse (imageRefusals g)
       tests = all-false (imageRefusals g) [] (omega arith) h .0
 
-      links-in : (x : ℕ) → 0 < x → x ≤ g .n + g .m → isLink (g .n) (g .m) (at 0 (g .after) x) ≡ true
-      links-in = all-at (λ x. isLink (g .n) (g .m) (at 0 (g .after) x)) (g .n + g .m) (not-false _ (tests .0))
-
       edges : (u r : ℕ) → Vertex (g .n) u → Mem r (edgesOf g u) → Edge (g .n) (g .m) r
-      edges = edges-in links-in
+      edges = edges-in (tests .0)
 
       place : (r : ℕ) → Edge (g .n) (g .m) r → at 0 (g .tail) (r - g .n) ≡ to g r
       place r e = same-place (g .n) r (g .tail) (e .0)
 
-      counted : (r : ℕ) → Edge (g .n) (g .m) r → countIn r (listsTo g (g .n)) ≡ 1
-      counted r e =
-          let back : g .n + (r - g .n) ≡ r = omega arith in
-          subst (λ (x : ℕ). countIn x (listsTo g (g .n)) ≡ 1) back (eqb-true (countIn (g .n + (r - g .n)) (listsTo g (g .n))) 1 (all-at (λ k. eqb (countIn (g .n + k) (listsTo g (g .n))) 1) (g .m) (not-false _ (tests .1 .1 .0)) (r - g .n) (let z = e in omega arith) (let z = e in omega arith)))
+      single : (r : ℕ) → Edge (g .n) (g .m) r → countIn r (listsTo g (g .n)) ≡ 1
+      single = counted (tests .1 .1 .0)
 
       nodup : (u : ℕ) → Vertex (g .n) u → NoDup (edgesOf g u)
-      nodup u hu = count-once (edgesOf g u) (λ r m. (let a = counted r (edges u r hu m) in let b = lists-one r (g .n) u (hu .0) (hu .1) in omega arith))
+      nodup u hu = count-once (edgesOf g u) (λ r m. (let a = single r (edges u r hu m) in let b = lists-one r (g .n) u (hu .0) (hu .1) in omega arith))
 
       one : (r t u : ℕ) → Vertex (g .n) t → Vertex (g .n) u → Mem r (edgesOf g t) → Mem r (edgesOf g u) → t ≡ u
       one r t u ht hu mt mu =
-          let a : countIn r (listsTo g (g .n)) ≡ 1 = counted r (edges u r hu mu) in
+          let a : countIn r (listsTo g (g .n)) ≡ 1 = single r (edges u r hu mu) in
           let b = count-mem mt in
           let c = count-mem mu in
           let less : t < u → ⊥ = λ z. (let q : countIn r (edgesOf g t) + countIn r (edgesOf g u) ≤ countIn r (listsTo g (g .n)) = lists-two r (g .n) t u (ht .0) z (hu .1) in omega arith) in

@@ -2,19 +2,21 @@
 use mathlib.Core.Path.{_≡_}
 use mathlib.Core.Logic.{_↔_}
 use mathlib.Core.Bool.{true, false}
-use mathlib.Core.List.{List, [], _∷_, _++_, reverse}
+use mathlib.Core.List.{List, [], _∷_, _++_, map, reverse}
 use Prim.Native.Nat.{ℕ, _+_, _*_, _≤_}
 use lib.ListN.{length}
 use Rattle.lists.specs.Members.{Mem, NoDup}
 use Rattle.lists.specs.Counts.{countIn, sumOf}
-use Rattle.graphs.specs.Nodes.{Vertex}
+use Rattle.lists.specs.Words.{at}
+use Rattle.graphs.specs.Nodes.{Vertex, Edge}
 use Rattle.graphs.specs.Graph.{Graph, Closed, Reached, met}
 use Rattle.graphs.specs.Events.{History, _▸_, event, label, advance-tree, advance-nontree, retreat-tree, retreat-nontree, traverse, labelled, scanned, traversed, count, tally, words}
 use Rattle.graphs.specs.Depth.{DepthFirst}
 use Rattle.graphs.specs.Breadth.{BreadthFirst}
 use Rattle.graphs.specs.Search.{recorder, search, depthFirst, drain, breadthFirst}
-use Rattle.graphs.specs.Image.{Image, graphOf}
-use Rattle.graphs.specs.Refusals.{Lent, short, imageAreas, sound, searchNumber}
+use Rattle.graphs.specs.Image.{Image, edgesOf, to, graphOf}
+use Rattle.graphs.specs.ArrayForm.{arrayGraph, arrayOf, numbersOf}
+use Rattle.graphs.specs.Refusals.{Lent, short, imageAreas, sound, imageNumber, searchNumber, arrayNumber}
 
 -- A search may begin: a graph, vertices labelled beforehand, and a start that is not among them.
 pub record Ready (G : Graph) (before : List ℕ) (start : ℕ) : Type 0 where
@@ -68,3 +70,13 @@ RoomClaim = (g : Image) (start : ℕ) (areas : List Lent) → searchNumber g sta
 -- The seven counts add up to the number of events.
 abbrev pub TallyClaim : Type 0
 TallyClaim = (h : History) → sumOf (λ k. k) (tally h) ≡ length h
+
+-- The array form of an image is the same graph, up to the list of edge numbers: position p of the array form, named n + p, is the
+-- edge that stands at p in that list. Every query of it, and every search, is taken.
+pub record SameGraph (g : Image) : Type 0 where
+  pub taken : (x : ℕ) → Vertex (g .n) x → arrayNumber (arrayOf g) x [] ≡ 0
+  pub lists : (u : ℕ) → Vertex (g .n) u → map (λ p. at (g .n) (numbersOf g) p) (arrayGraph (arrayOf g) .out u) ≡ edgesOf g u
+  pub targets : (p : ℕ) → Edge (g .n) (g .m) p → arrayGraph (arrayOf g) .to p ≡ to g (at (g .n) (numbersOf g) p)
+
+abbrev pub ArrayClaim : Type 0
+ArrayClaim = (g : Image) (areas : List Lent) → imageNumber g areas ≡ 0 → SameGraph g

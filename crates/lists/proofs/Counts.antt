@@ -3,15 +3,15 @@
 use mathlib.Core.Path.{_≡_, refl, sym, ap, _∙_, subst}
 use mathlib.Core.Bool.{Bool, true, false, not, cond, _||_}
 use mathlib.Core.List.{List, [], _∷_, _++_}
-use Prim.Native.Nat.{ℕ, zero, suc, _+_, _≤_, _<_}
+use Prim.Native.Nat.{ℕ, zero, suc, _+_, _-_, _≤_, _<_}
 use native.Mathlib.Omega.{arith}
 use lib.ListN.{length}
 use lib.Dec.{eqb}
 use borrow.Author.Tests.{eqb-true, eq-eqb, ne-eqb}
 use Rattle.lists.specs.Members.{Mem, here, there, memb, NoDup, Same, without}
 use Rattle.lists.specs.Counts.{bump, countIn, sumOf, rank, allTo}
-use Rattle.lists.proofs.Tests.{both, zero-test, Compared, equal, other, compare}
-use Rattle.lists.proofs.Members.{mem-nil, mem-tail, mem-one, mem-memb, memb-of-not, without-mem, mem-without, without-nodup, without-none}
+use Rattle.lists.proofs.Tests.{clash, and-true, both, zero-test, Compared, equal, other, compare}
+use Rattle.lists.proofs.Members.{mem-nil, mem-tail, each-cons, mem-one, memb-true, mem-memb, memb-false, memb-of-not, without-mem, mem-without, without-nodup, without-none, pigeonhole}
 
 pub bump-grow : (b : Bool) (k : ℕ) → k ≤ bump b k
 bump-grow true k = omega arith
@@ -80,6 +80,7 @@ pub length-sum : (l : List ℕ) → length l ≡ sumOf (λ x. 1) l
 length-sum [] = refl
 length-sum (x ∷ l) = let h = length-sum l in omega arith
 
+-- A member taken out of the list, and of its sum.
 take-out : (f : ℕ → ℕ) (x : ℕ) (l : List ℕ) → NoDup l → Mem x l → sumOf f l ≡ f x + sumOf f (without (x ∷ []) l)
 take-out f x [] h m = absurd (mem-nil m)
 take-out f x (y ∷ l) h m = go (compare y x) (λ k. take-out f x l (h .1) k)
@@ -109,6 +110,24 @@ same-sum f (x ∷ k) l h j s =
 pub same-length : (k l : List ℕ) → NoDup k → NoDup l → Same k l → length k ≡ length l
 same-length k l h j s = length-sum k ∙ same-sum (λ x. 1) k l h j s ∙ sym (length-sum l)
 
+-- A list, nothing twice, that has all of b + 1 to b + n has at least n members.
+covers : (b n : ℕ) (l : List ℕ) → NoDup l → ((x : ℕ) → b < x → x ≤ b + n → Mem x l) → n ≤ length l
+covers b zero l h q = omega arith
+covers b (suc n) l h q =
+    omega (
+      arith,
+      length-sum l,
+      take-out (λ x. 1) last l h (q last (omega arith) (omega arith)),
+      length-sum rest,
+      covers b n rest (without-nodup (last ∷ []) l h) (λ x p r. mem-without (last ∷ []) l (q x p (omega arith)) (λ m. (let e : x ≡ last = mem-one m in omega arith))),
+    )
+  where
+    last : ℕ
+    last = b + suc n
+
+    rest : List ℕ
+    rest = without (last ∷ []) l
+
 -- ---- tests at each number
 pub all-at : (f : ℕ → Bool) (k : ℕ) → allTo f k ≡ true → (x : ℕ) → 0 < x → x ≤ k → f x ≡ true
 all-at f zero h x p q = absurd (omega arith)
@@ -117,6 +136,41 @@ all-at f (suc k) h x p q = go (compare x (suc k)) (both (allTo f k) (f (suc k)) 
     go : Compared x (suc k) → (allTo f k ≡ true) × (f (suc k) ≡ true) → (allTo f k ≡ true → x ≤ k → f x ≡ true) → f x ≡ true
     go (equal e t) z ih = ap f e ∙ z .1
     go (other ne t) z ih = ih (z .0) (omega arith)
+
+pub all-of : (f : ℕ → Bool) (k : ℕ) → ((x : ℕ) → 0 < x → x ≤ k → f x ≡ true) → allTo f k ≡ true
+all-of f zero h = refl
+all-of f (suc k) h = and-true (all-of f k (λ x p q. h x p (omega arith))) (h (suc k) (omega arith) (omega arith))
+
+pub all-fails : (f : ℕ → Bool) (k x : ℕ) → 0 < x → x ≤ k → f x ≡ false → allTo f k ≡ false
+all-fails f k x p q e = go (allTo f k) refl
+  where
+    go : (b : Bool) → allTo f k ≡ b → b ≡ false
+    go true h = clash (sym (all-at f k h x p q) ∙ e)
+    go false h = refl
+
+-- What is counted once at each place is counted once.
+pub all-counted : (b n : ℕ) (l : List ℕ) → allTo (λ k. eqb (countIn (b + k) l) 1) n ≡ true → (x : ℕ) → b < x → x ≤ b + n → countIn x l ≡ 1
+all-counted b n l h x p q =
+    let back : b + (x - b) ≡ x = omega arith in
+    subst (λ (y : ℕ). countIn y l ≡ 1) back (eqb-true (countIn (b + (x - b)) l) 1 (all-at (λ k. eqb (countIn (b + k) l) 1) n h (x - b) (omega arith) (omega arith)))
+
+-- A list of numbers of b + 1 to b + n, none twice, has n members exactly where each of the numbers is counted once.
+pub count-all : (b n : ℕ) (l : List ℕ) → NoDup l → ((x : ℕ) → Mem x l → (b < x) × (x ≤ b + n)) → eqb (length l) n ≡ allTo (λ k. eqb (countIn (b + k) l) 1) n
+count-all b n l h q = go (compare (length l) n)
+  where
+    -- With n members, a number that is none of them would be one too many.
+    member : length l ≡ n → (x : ℕ) → b < x → x ≤ b + n → (t : Bool) → memb x l ≡ t → Mem x l
+    member e x p r true m = memb-true x l m
+    member e x p r false m = absurd (let k = pigeonhole b n (x ∷ l) (memb-false x l m, h) (each-cons (λ y. (b < y) × (y ≤ b + n)) x l (p, r) q) in omega arith)
+
+    fewer : (length l ≡ n → ⊥) → (t : Bool) → allTo (λ k. eqb (countIn (b + k) l) 1) n ≡ t → t ≡ false
+    fewer ne true a = absurd (ne (omega (arith, pigeonhole b n l h q, covers b n l h (λ x p r. mem-count x l (omega (arith, all-counted b n l a x p r))))))
+    fewer ne false a = refl
+
+    go : Compared (length l) n → eqb (length l) n ≡ allTo (λ k. eqb (countIn (b + k) l) 1) n
+    go (equal e t) =
+        t ∙ sym (all-of (λ k. eqb (countIn (b + k) l) 1) n (λ k p r. eq-eqb (countIn (b + k) l) 1 (omega (arith, count-most (b + k) l h, count-mem (member e (b + k) (omega arith) (omega arith) (memb (b + k) l) refl)))))
+    go (other ne t) = t ∙ sym (fewer ne (allTo (λ k. eqb (countIn (b + k) l) 1) n) refl)
 
 -- ---- ranks
 pub rank-none : (x : ℕ) (l : List ℕ) → (Mem x l → ⊥) → rank x l ≡ 0

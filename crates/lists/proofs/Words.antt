@@ -3,15 +3,15 @@
 use mathlib.Core.Path.{_≡_, refl, sym, ap, _∙_}
 use mathlib.Core.Logic.{_≢_}
 use mathlib.Core.Bool.{cond}
-use mathlib.Core.List.{List, _∷_, _++_, append-assoc}
+use mathlib.Core.List.{List, [], _∷_, _++_, append-assoc}
 use Prim.Native.Nat.{ℕ, zero, suc, _+_, _-_, _≤_, _<_}
 use native.Mathlib.Omega.{arith}
 use native.Mathlib.Nat.{add-zero}
 use lib.Dec.{eqb}
-use lib.ListN.{length, getD, set, drop, replicate, length-set, length-append, length-drop, length-replicate, replicate-append-replicate, List·getD-append}
-use lib.Seq.{set-set, set-comm, set-getD, getD-set-same, getD-set-other, set-append-left, drop-at, drop-set-lt, drop-append-add, drop-append-seam, drop-drop}
+use lib.ListN.{length, getD, set, take, drop, replicate, take-append-drop, length-set, length-append, length-drop, length-replicate, replicate-append-replicate, List·getD-append}
+use lib.Seq.{set-set, set-comm, set-getD, getD-set-same, getD-set-other, set-append-left, set-at, take-at, drop-at, take-suc, drop-cons, append-snoc, drop-set-lt, drop-append-add, drop-append-seam, drop-drop, length-take-le}
 use borrow.Author.Tests.{ne-eqb}
-use Rattle.lists.specs.Words.{at, put, overlay, cleared, valuesFrom, filled}
+use Rattle.lists.specs.Words.{at, put, overlay, pasted, cleared, valuesFrom, filled}
 use Rattle.lists.proofs.Tests.{Compared, equal, other, compare}
 
 module _ (b : ℕ) where
@@ -124,7 +124,7 @@ at-filled f k area x h q =
 pub length-filled : (f : ℕ → ℕ) (k : ℕ) (area : List ℕ) → k ≤ length area → length (filled f k area) ≡ length area
 length-filled f k area h = length-front (valuesFrom f 0 k) k area (length-values f 0 k) h
 
-values-append : (f : ℕ → ℕ) (b n m : ℕ) → valuesFrom f b (n + m) ≡ valuesFrom f b n ++ valuesFrom f (b + n) m
+pub values-append : (f : ℕ → ℕ) (b n m : ℕ) → valuesFrom f b (n + m) ≡ valuesFrom f b n ++ valuesFrom f (b + n) m
 values-append f b zero m = let e : zero + m ≡ m = omega arith in let z : b ≡ b + zero = omega arith in λ i. valuesFrom f (z i) (e i)
 values-append f b (suc n) m =
     let e : suc n + m ≡ suc (n + m) = omega arith in
@@ -142,3 +142,53 @@ clear-filled f n m area h =
     ∙ ap (λ (l : List ℕ). replicate n 0 ++ l) (drop-at (valuesFrom f 0 n) (replicate m 0 ++ drop (n + m) area) n (length-values f 0 n))
     ∙ sym (append-assoc (replicate n 0) (replicate m 0) (drop (n + m) area))
     ∙ ap (λ (l : List ℕ). l ++ drop (n + m) area) (replicate-append-replicate n m 0)
+
+-- ---- words pasted into an area
+-- The words in front are an overlay.
+pub pasted-front : (ws area : List ℕ) → pasted 0 ws area ≡ overlay ws area
+pasted-front ws area = let e : 0 + length ws ≡ length ws = omega arith in ap (λ (k : ℕ). ws ++ drop k area) e
+
+-- No words.
+pub pasted-none : (k : ℕ) (area : List ℕ) → pasted k [] area ≡ area
+pasted-none k area = let e : k + 0 ≡ k = omega arith in ap (λ (j : ℕ). take k area ++ drop j area) e ∙ take-append-drop k area
+
+module _ (k : ℕ) (area : List ℕ) (h : k ≤ length area) where
+  front : length (take k area) ≡ k
+  front = length-take-le k area h
+
+  pub length-pasted : (ws : List ℕ) → k + length ws ≤ length area → length (pasted k ws area) ≡ length area
+  length-pasted ws q = simp (length-append, length-drop) (omega (arith, front))
+
+  -- The next word is stored behind those pasted so far.
+  pub pasted-next : (ws : List ℕ) (w : ℕ) → k + length ws < length area → set (pasted k ws area) (k + length ws) w ≡ pasted k (ws ++ (w ∷ [])) area
+  pasted-next ws w q =
+      let n : length (take k area ++ ws) ≡ k + length ws = length-append (take k area) ws ∙ ap (λ (i : ℕ). i + length ws) front in
+      let more : suc (k + length ws) ≡ k + length (ws ++ (w ∷ [])) = omega (arith, length-append ws (w ∷ [])) in
+      ap (λ (l : List ℕ). set l (k + length ws) w) (sym (append-assoc (take k area) ws (drop (k + length ws) area)) ∙ ap (λ (l : List ℕ). (take k area ++ ws) ++ l) (drop-cons area (k + length ws) 0 q))
+      ∙ set-at (take k area ++ ws) (getD area (k + length ws) 0) (drop (suc (k + length ws)) area) w (k + length ws) n
+      ∙ append-assoc (take k area) ws (w ∷ drop (suc (k + length ws)) area)
+      ∙ ap (λ (l : List ℕ). take k area ++ l) (sym (append-assoc ws (w ∷ []) (drop (suc (k + length ws)) area)))
+      ∙ ap (λ (i : ℕ). take k area ++ ((ws ++ (w ∷ [])) ++ drop i area)) more
+
+  -- The word before those pasted so far is stored.
+  pub pasted-before : (ws : List ℕ) (w : ℕ) → k < length area → set (pasted (suc k) ws area) k w ≡ pasted k (w ∷ ws) area
+  pasted-before ws w q =
+      let past : suc k + length ws ≡ k + suc (length ws) = omega arith in
+      ap (λ (l : List ℕ). set l k w) (ap (λ (l : List ℕ). l ++ (ws ++ drop (suc k + length ws) area)) (take-suc area k 0 q) ∙ append-snoc (take k area) (getD area k 0) (ws ++ drop (suc k + length ws) area))
+      ∙ set-at (take k area) (getD area k 0) (ws ++ drop (suc k + length ws) area) w k front
+      ∙ ap (λ (i : ℕ). take k area ++ (w ∷ (ws ++ drop i area))) past
+
+  -- Words pasted behind words pasted.
+  pub pasted-pasted : (ws vs : List ℕ) → k + length ws ≤ length area → pasted (k + length ws) vs (pasted k ws area) ≡ pasted k (ws ++ vs) area
+  pasted-pasted ws vs q =
+      let n : length (take k area ++ ws) ≡ k + length ws = length-append (take k area) ws ∙ ap (λ (i : ℕ). i + length ws) front in
+      let whole : pasted k ws area ≡ (take k area ++ ws) ++ drop (k + length ws) area = sym (append-assoc (take k area) ws (drop (k + length ws) area)) in
+      let kept : take (k + length ws) (pasted k ws area) ≡ take k area ++ ws = ap (take (k + length ws)) whole ∙ take-at (take k area ++ ws) (drop (k + length ws) area) (k + length ws) n in
+      let past : drop (k + length ws) (pasted k ws area) ≡ drop (k + length ws) area = ap (drop (k + length ws)) whole ∙ drop-at (take k area ++ ws) (drop (k + length ws) area) (k + length ws) n in
+      let sum : k + length ws + length vs ≡ k + length (ws ++ vs) = omega (arith, length-append ws vs) in
+      let rest : drop (k + length ws + length vs) (pasted k ws area) ≡ drop (k + length (ws ++ vs)) area =
+      sym (drop-drop (length vs) (k + length ws) (pasted k ws area)) ∙ ap (drop (length vs)) past ∙ drop-drop (length vs) (k + length ws) area ∙ ap (λ (i : ℕ). drop i area) sum in
+      ap (λ (l : List ℕ). l ++ (vs ++ drop (k + length ws + length vs) (pasted k ws area))) kept
+      ∙ ap (λ (l : List ℕ). (take k area ++ ws) ++ (vs ++ l)) rest
+      ∙ append-assoc (take k area) ws (vs ++ drop (k + length (ws ++ vs)) area)
+      ∙ ap (λ (l : List ℕ). take k area ++ l) (sym (append-assoc ws vs (drop (k + length (ws ++ vs)) area)))

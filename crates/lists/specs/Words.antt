@@ -1,7 +1,7 @@
 -- Areas of words. Nodes are numbered from 1, and an area may begin with any node.
 use mathlib.Core.List.{List, [], _∷_, _++_}
-use Prim.Native.Nat.{ℕ, zero, suc, _-_}
-use lib.ListN.{length, getD, set, drop, replicate}
+use Prim.Native.Nat.{ℕ, zero, suc, _+_, _-_}
+use lib.ListN.{length, getD, set, take, drop, replicate}
 
 -- The word of node x in an area that begins with node b + 1.
 unfoldable pub at : ℕ → List ℕ → ℕ → ℕ
@@ -14,6 +14,10 @@ put b area x w = set area (x - suc b) w
 -- The area with these words in front; the words past them stay.
 abbrev pub overlay : List ℕ → List ℕ → List ℕ
 overlay ws area = ws ++ drop (length ws) area
+
+-- The area with these words behind its first k; the words past them stay.
+abbrev pub pasted : ℕ → List ℕ → List ℕ → List ℕ
+pasted k ws area = take k area ++ (ws ++ drop (k + length ws) area)
 
 -- The area with its first k words 0.
 abbrev pub cleared : ℕ → List ℕ → List ℕ
