@@ -1,0 +1,180 @@
+-- What the loops of the numbers' code keep: the limits passed, the value read so far, the digits put so far.
+-- Each loop's step takes one limit or one digit, as the recursion of its definition does.
+use mathlib.Core.Path.{_≡_, refl, sym, ap, _∙_, subst}
+use mathlib.Core.Bool.{Bool, true, false, cond, not, _&&_, and-false}
+use mathlib.Core.List.{List, [], _∷_, _++_, append-nil}
+use mathlib.Core.Option.{Option, none, some}
+use Prim.Native.Nat.{ℕ, suc, _+_, _-_, _*_, _/_, _%_, _≤_, _<_}
+use native.Mathlib.Numerals.{add-one}
+use native.Mathlib.Omega.{arith}
+use lib.Dec.{eqb, leb}
+use lib.ListN.{length, drop, getD, set, drop-of-length-le}
+use lib.Seq.{append-snoc, drop-cons}
+use borrow.Author.Tests.{lt-ltb, le-ltb, le-leb, lt-leb, eq-eqb, ne-eqb}
+use Rattle.lists.specs.Words.{pasted}
+use Rattle.lists.proofs.Tests.{zero-test, Compared, equal, other, compare}
+use Rattle.lists.proofs.Words.{pasted-none, pasted-before}
+use Rattle.numbers.specs.Decimal.{limits, passed, decimalLength, digits, written, putAt, pastAt, isDigit, digitsAhead, valueAfter, unpadded, Field, fieldOf, numberAt}
+use Rattle.numbers.proofs.Numbers.{digit-tested, length-digits, value-grows}
+
+-- ---- the length by the table
+-- The first k limits are passed.
+abbrev pub Passing : ℕ → ℕ → Type 0
+Passing x k = decimalLength x ≡ suc (k + passed x (drop k limits))
+
+pub passing-none : (x : ℕ) → Passing x 0
+unfolding decimalLength
+passing-none x = let e : passed x limits ≡ 0 + passed x limits = omega arith in ap suc e
+
+-- The next limit is passed.
+pub passing-next : (x k : ℕ) → Passing x k → k < 4 → getD limits k 0 ≤ x → Passing x (k + 1)
+passing-next x k p h q =
+    let e : passed x (drop k limits) ≡ suc (passed x (drop (suc k) limits)) = rw (drop-cons limits k 0 h, le-ltb x (getD limits k 0) q) in
+    rw (add-one k) (omega arith)
+
+-- The next limit is not passed.
+pub passing-here : (x k : ℕ) → Passing x k → k < 4 → x < getD limits k 0 → decimalLength x ≡ k + 1
+passing-here x k p h q =
+    let e : passed x (drop k limits) ≡ 0 = rw (drop-cons limits k 0 h, lt-ltb x (getD limits k 0) q) in
+    omega arith
+
+-- All limits are passed.
+pub passing-all : (x k : ℕ) → Passing x k → k ≡ 4 → decimalLength x ≡ 5
+passing-all x k p e = subst (λ (j : ℕ). Passing x j) e p
+
+-- ---- a number read on
+-- The digits from place i on.
+module _ (text : List ℕ) (i : ℕ) where
+  ahead-end : length text ≤ i → digitsAhead (drop i text) ≡ []
+  ahead-end h = ap digitsAhead (drop-of-length-le text h)
+
+  ahead-none : i < length text → isDigit (getD text i 0) ≡ false → digitsAhead (drop i text) ≡ []
+  ahead-none h t = rw (drop-cons text i 0 h, t)
+
+  ahead-one : i < length text → isDigit (getD text i 0) ≡ true → digitsAhead (drop i text) ≡ getD text i 0 ∷ digitsAhead (drop (i + 1) text)
+  ahead-one h t = rw (add-one i, drop-cons text i 0 h, t)
+
+-- Digits may stand behind the value v: there are none, or v is no leading zero.
+abbrev follow : ℕ → List ℕ → Bool
+follow v [] = true
+follow v (d ∷ ds) = not (eqb v 0)
+
+-- The number of value v up to place i, with these digits behind it.
+abbrev onward : ℕ → ℕ → List ℕ → Option Field
+onward v i ds = cond (follow v ds && leb (valueAfter v ds) 65535) (some (record { value = valueAfter v ds; next = i + length ds })) none
+
+follow-more : (v : ℕ) (ds : List ℕ) → 0 < v → follow v ds ≡ true
+follow-more v [] h = refl
+follow-more v (d ∷ ds) h = ap not (zero-test v h)
+
+-- Digits behind a first digit are in form if they may stand behind its value.
+follow-first : (d : ℕ) (ds : List ℕ) → 48 ≤ d → unpadded (d ∷ ds) ≡ follow (d - 48) ds
+follow-first d [] h = refl
+follow-first d (e ∷ ds) h = ap not (go (compare d 48))
+  where
+    go : Compared d 48 → eqb d 48 ≡ eqb (d - 48) 0
+    go (equal q t) = t ∙ sym (eq-eqb (d - 48) 0 (omega arith))
+    go (other q t) = t ∙ sym (zero-test (d - 48) (omega arith))
+
+module _ (text : List ℕ) (at : ℕ) where
+  -- The digits from place `at` to place i have the value v, and those from i on are still to be read.
+  abbrev pub Reading : ℕ → ℕ → Type 0
+  Reading v i = numberAt text at ≡ onward v i (digitsAhead (drop i text))
+
+  none-ahead : digitsAhead (drop at text) ≡ [] → numberAt text at ≡ none
+  unfolding numberAt
+  none-ahead e = rw e
+
+  pub number-past : length text ≤ at → numberAt text at ≡ none
+  number-past h = none-ahead (ahead-end text at h)
+
+  pub number-none : at < length text → isDigit (getD text at 0) ≡ false → numberAt text at ≡ none
+  number-none h t = none-ahead (ahead-none text at h t)
+
+  pub reading-first : at < length text → isDigit (getD text at 0) ≡ true → Reading (getD text at 0 - 48) (at + 1)
+  unfolding numberAt
+  reading-first h t =
+      let d = getD text at 0 in
+      let rest = digitsAhead (drop (at + 1) text) in
+      let v : 0 * 10 + (d - 48) ≡ d - 48 = omega arith in
+      let n : at + suc (length rest) ≡ at + 1 + length rest = omega arith in
+      ap (λ (ds : List ℕ). fieldOf ds at) (ahead-one text at h t)
+      ∙ (λ i. cond (follow-first d rest (digit-tested d t .low) i && leb (valueAfter (v i) rest) 65535) (some (record { value = valueAfter (v i) rest; next = n i })) none)
+
+  module _ (v i : ℕ) (r : Reading v i) where
+    done : v ≤ 65535 → digitsAhead (drop i text) ≡ [] → numberAt text at ≡ some (record { value = v; next = i })
+    done f e = let n : i + 0 ≡ i = omega arith in r ∙ ap (onward v i) e ∙ rw (le-leb v 65535 f, n)
+
+    pub reading-end : v ≤ 65535 → length text ≤ i → numberAt text at ≡ some (record { value = v; next = i })
+    reading-end f h = done f (ahead-end text i h)
+
+    module _ (h : i < length text) where
+      pub reading-stop : v ≤ 65535 → isDigit (getD text i 0) ≡ false → numberAt text at ≡ some (record { value = v; next = i })
+      reading-stop f t = done f (ahead-none text i h t)
+
+      -- A digit behind a leading zero.
+      pub reading-zero : isDigit (getD text i 0) ≡ true → v ≡ 0 → numberAt text at ≡ none
+      reading-zero t z = r ∙ ap (onward v i) (ahead-one text i h t) ∙ rw (eq-eqb v 0 z)
+
+      pub reading-over : isDigit (getD text i 0) ≡ true → 65535 < v * 10 + (getD text i 0 - 48) → numberAt text at ≡ none
+      reading-over t q =
+          let w = v * 10 + (getD text i 0 - 48) in
+          let rest = digitsAhead (drop (i + 1) text) in
+          let over : leb (valueAfter w rest) 65535 ≡ false = lt-leb (valueAfter w rest) 65535 (omega (arith, value-grows w rest)) in
+          r ∙ ap (onward v i) (ahead-one text i h t) ∙ rw (over, and-false (not (eqb v 0)))
+
+      pub reading-next : isDigit (getD text i 0) ≡ true → (v ≡ 0 → ⊥) → Reading (v * 10 + (getD text i 0 - 48)) (i + 1)
+      reading-next t z =
+          let w = v * 10 + (getD text i 0 - 48) in
+          let rest = digitsAhead (drop (i + 1) text) in
+          let form : not (eqb v 0) ≡ follow w rest = ap not (ne-eqb v 0 z) ∙ sym (follow-more w rest (omega arith)) in
+          let n : i + suc (length rest) ≡ i + 1 + length rest = omega arith in
+          r
+          ∙ ap (onward v i) (ahead-one text i h t)
+          ∙ (λ j. cond (form j && leb (valueAfter w rest) 65535) (some (record { value = valueAfter w rest; next = n j })) none)
+
+-- ---- a number put into an area
+-- The last of the k digits of x stand in the area from place at + i on; `rest` has the first i.
+pub record Putting (x k at : ℕ) (start : List ℕ) (area : List ℕ) (rest i : ℕ) : Type 0 where
+  pub bytes : List ℕ
+  pub spells : digits i rest ++ bytes ≡ digits k x
+  pub words : area ≡ pasted (at + i) bytes start
+
+module _ (x k at : ℕ) (start : List ℕ) where
+  pub putting-none : Putting x k at start start x k
+  putting-none = record { bytes = []; spells = append-nil (digits k x); words = sym (pasted-none (at + k) start) }
+
+  pub putting-next : (area : List ℕ) (rest i : ℕ) → Putting x k at start area rest i → 0 < i → at + i ≤ length start → Putting x k at start (set area (at + (i - 1)) (48 + rest % 10)) (rest / 10) (i - 1)
+  putting-next area rest i p h q =
+      let s : i ≡ suc (i - 1) = omega arith in
+      let n : at + i ≡ suc (at + (i - 1)) = omega arith in
+      record {
+        bytes = (48 + rest % 10) ∷ p .bytes;
+        spells = sym (append-snoc (digits (i - 1) (rest / 10)) (48 + rest % 10) (p .bytes)) ∙ ap (λ (j : ℕ). digits j rest ++ p .bytes) (sym s) ∙ p .spells;
+        words =
+            ap (λ (l : List ℕ). set l (at + (i - 1)) (48 + rest % 10)) (p .words ∙ ap (λ (j : ℕ). pasted j (p .bytes) start) n)
+            ∙ pasted-before (at + (i - 1)) start (omega arith) (p .bytes) (48 + rest % 10) (omega arith);
+      }
+
+-- What the writer gives back.
+abbrev pub Put : ℕ → ℕ → List ℕ → ℕ → List ℕ → Type 0
+Put x at start next area = (next ≡ pastAt (written x) at start) × (area ≡ putAt (written x) at start)
+
+module _ (x k at : ℕ) (start : List ℕ) (e : k ≡ decimalLength x) where
+  size : length (written x) ≡ k
+  unfolding written
+  size = length-digits (decimalLength x) x ∙ sym e
+
+  pub put-none : length start < at + k → Put x at start at start
+  unfolding putAt pastAt
+  put-none h =
+      let t : leb (at + length (written x)) (length start) ≡ false = lt-leb (at + length (written x)) (length start) (omega (arith, size)) in
+      rw t (refl, refl)
+
+  pub put-all : (area : List ℕ) (rest i : ℕ) → Putting x k at start area rest i → i ≡ 0 → at + k ≤ length start → Put x at start (at + k) area
+  unfolding putAt pastAt written
+  put-all area rest i p z h =
+      let t : leb (at + length (written x)) (length start) ≡ true = le-leb (at + length (written x)) (length start) (omega (arith, size)) in
+      let n : at + i ≡ at = omega arith in
+      let b : p .bytes ≡ written x = ap (λ (j : ℕ). digits j rest ++ p .bytes) (sym z) ∙ p .spells ∙ ap (λ (j : ℕ). digits j x) e in
+      rw t (ap (λ (j : ℕ). at + j) (sym size), p .words ∙ (λ j. pasted (n j) (b j) start))

@@ -1,0 +1,250 @@
+-- A number written is read back, and what is read is written again.
+-- By the digits' recursion: writing takes the last digit off, reading puts it on. A number's length is told by the powers of ten around it.
+use mathlib.Core.Path.{_≡_, refl, sym, ap, _∙_, subst}
+use mathlib.Core.Bool.{Bool, true, false, cond, not}
+use mathlib.Core.List.{List, [], _∷_, _++_, append-assoc, append-nil}
+use mathlib.Core.Option.{none, some}
+use Prim.Native.Nat.{ℕ, zero, suc, _+_, _-_, _*_, _/_, _%_, _^_, _≤_, _<_}
+use native.Mathlib.Omega.{arith}
+use native.Mathlib.Nat.{pow-succ', pow-le-pow-right}
+use lib.Dec.{eqb, ltb, leb}
+use lib.ListN.{length, drop, length-append}
+use lib.Seq.{append-snoc, drop-drop, drop-append-seam}
+use borrow.Author.Tests.{ltb-true, ltb-false, leb-true, le-leb, ne-eqb, eqb-false, not-true}
+use Rattle.lists.proofs.Tests.{clash, and-true, both}
+use Rattle.numbers.specs.Decimal.{decimalLength, digits, written, isDigit, digitsAhead, valueAfter, unpadded, inForm, Field, fieldOf, numberAt}
+use Rattle.numbers.specs.Claims.{NumberClaim}
+
+-- ---- values
+value-append : (v : ℕ) (ds es : List ℕ) → valueAfter v (ds ++ es) ≡ valueAfter (valueAfter v ds) es
+value-append v [] es = refl
+value-append v (d ∷ ds) es = value-append (v * 10 + (d - 48)) ds es
+
+pub value-grows : (v : ℕ) (ds : List ℕ) → v ≤ valueAfter v ds
+value-grows v [] = omega arith
+value-grows v (d ∷ ds) = let h = value-grows (v * 10 + (d - 48)) ds in omega arith
+
+-- The last k digits of a number of at most k are its value.
+value-digits : (k x : ℕ) → x < 10 ^ k → valueAfter 0 (digits k x) ≡ x
+value-digits zero x h = omega arith
+value-digits (suc k) x h =
+    let p : 10 ^ suc k ≡ 10 * 10 ^ k = pow-succ' 10 k in
+    let ih : valueAfter 0 (digits k (x / 10)) ≡ x / 10 = value-digits k (x / 10) (omega arith) in
+    let e : x / 10 * 10 + (48 + x % 10 - 48) ≡ x = omega arith in
+    value-append 0 (digits k (x / 10)) ((48 + x % 10) ∷ []) ∙ ap (λ (v : ℕ). v * 10 + (48 + x % 10 - 48)) ih ∙ e
+
+-- ---- digits
+-- The byte of a digit, by its test and by its bounds.
+pub record Digit (b : ℕ) : Type 0 where
+  pub test : isDigit b ≡ true
+  pub low : 48 ≤ b
+  pub high : b ≤ 57
+
+pub digit-tested : (b : ℕ) → isDigit b ≡ true → Digit b
+digit-tested b t = let z = both (leb 48 b) (leb b 57) t in record { test = t; low = leb-true 48 b (z .0); high = leb-true b 57 (z .1) }
+
+digit-bounded : (b : ℕ) → 48 ≤ b → b ≤ 57 → Digit b
+digit-bounded b p q = record { test = and-true (le-leb 48 b p) (le-leb b 57 q); low = p; high = q }
+
+abbrev AllDigits : List ℕ → Type 0
+AllDigits [] = Unit {0}
+AllDigits (d ∷ ds) = Digit d × AllDigits ds
+
+all-append : (ds es : List ℕ) → AllDigits ds → AllDigits es → AllDigits (ds ++ es)
+all-append [] es p q = q
+all-append (d ∷ ds) es p q = (p .0, all-append ds es (p .1) q)
+
+digits-all : (k x : ℕ) → AllDigits (digits k x)
+digits-all zero x = tt
+digits-all (suc k) x = all-append (digits k (x / 10)) ((48 + x % 10) ∷ []) (digits-all k (x / 10)) (digit-bounded (48 + x % 10) (omega arith) (omega arith), tt)
+
+pub length-digits : (k x : ℕ) → length (digits k x) ≡ k
+length-digits zero x = refl
+length-digits (suc k) x = let h = length-digits k (x / 10) in omega (arith, length-append (digits k (x / 10)) ((48 + x % 10) ∷ []))
+
+-- ---- the digits that a text begins with
+ahead-all : (l : List ℕ) → AllDigits (digitsAhead l)
+ahead-all [] = tt
+ahead-all (b ∷ l) = go (isDigit b) refl (ahead-all l)
+  where
+    go : (t : Bool) → isDigit b ≡ t → AllDigits (digitsAhead l) → AllDigits (cond t (b ∷ digitsAhead l) [])
+    go true e ih = (digit-tested b e, ih)
+    go false e ih = tt
+
+-- They are the text up to their length.
+ahead-drop : (l : List ℕ) → l ≡ digitsAhead l ++ drop (length (digitsAhead l)) l
+ahead-drop [] = refl
+ahead-drop (b ∷ l) = go (isDigit b) (ahead-drop l)
+  where
+    go : (t : Bool) → l ≡ digitsAhead l ++ drop (length (digitsAhead l)) l → _≡_ {A = List ℕ} (b ∷ l) (cond t (b ∷ digitsAhead l) [] ++ drop (length (cond t (b ∷ digitsAhead l) [])) (b ∷ l))
+    go true ih = ap (λ (r : List ℕ). b ∷ r) ih
+    go false ih = refl
+
+-- Digits are read up to where none follows.
+ahead-append : (ds rest : List ℕ) → AllDigits ds → digitsAhead rest ≡ [] → digitsAhead (ds ++ rest) ≡ ds
+ahead-append [] rest p e = e
+ahead-append (d ∷ ds) rest p e = rw (p .0 .test) (ap (λ (l : List ℕ). d ∷ l) (ahead-append ds rest (p .1) e))
+
+-- ---- digits behind a number
+-- They are its last digits.
+digits-value : (k v : ℕ) (ds : List ℕ) → AllDigits ds → digits (k + length ds) (valueAfter v ds) ≡ digits k v ++ ds
+digits-value k v [] p = let e : k + 0 ≡ k = omega arith in ap (λ (j : ℕ). digits j v) e ∙ sym (append-nil (digits k v))
+digits-value k v (d ∷ ds) p =
+    let e : k + suc (length ds) ≡ suc k + length ds = omega arith in
+    let front : (v * 10 + (d - 48)) / 10 ≡ v = omega arith in
+    let last : 48 + (v * 10 + (d - 48)) % 10 ≡ d = omega arith in
+    ap (λ (j : ℕ). digits j (valueAfter v (d ∷ ds))) e
+    ∙ digits-value (suc k) (v * 10 + (d - 48)) ds (p .1)
+    ∙ (λ i. (digits k (front i) ++ (last i ∷ [])) ++ ds)
+    ∙ append-assoc (digits k v) (d ∷ []) ds
+
+-- ---- lengths
+-- k is the length of x, by the powers of ten around x.
+data Long (x : ℕ) : ℕ → Type 0 where
+  one : x < 10 → Long x 1
+  more : (k : ℕ) → 10 ^ suc k ≤ x → x < 10 ^ suc (suc k) → Long x (suc (suc k))
+
+long-below : {x k : ℕ} → Long x k → x < 10 ^ k
+long-below (one p) = p
+long-below (more k p q) = q
+
+-- Powers of ten rise.
+order : (a b x : ℕ) → 10 ^ a ≤ x → x < 10 ^ b → a < b
+order a b x p q = go (ltb a b) refl
+  where
+    go : (t : Bool) → ltb a b ≡ t → a < b
+    go true e = ltb-true a b e
+    go false e = let h : 10 ^ b ≤ 10 ^ a = pow-le-pow-right {n = 10} (omega arith) (ltb-false a b e) in absurd (omega arith)
+
+-- A number has one length.
+long-once : {x j k : ℕ} → Long x j → Long x k → j ≡ k
+long-once (one p) (one q) = refl
+long-once {x} (one p) (more k q r) = absurd (let h = order (suc k) 1 x q p in omega arith)
+long-once {x} (more j p q) (one r) = absurd (let h = order (suc j) 1 x p r in omega arith)
+long-once {x} (more j p q) (more k r s) = let g = order (suc j) (suc (suc k)) x p s in let h = order (suc k) (suc (suc j)) x r q in omega arith
+
+-- The table gives it.
+long : (x : ℕ) → x ≤ 65535 → Long x (decimalLength x)
+unfolding decimalLength
+long x h = go (ltb x 10) (ltb x 100) (ltb x 1000) (ltb x 10000) refl refl refl refl
+  where
+    go : (a b c d : Bool) → ltb x 10 ≡ a → ltb x 100 ≡ b → ltb x 1000 ≡ c → ltb x 10000 ≡ d → Long x (suc (cond a 0 (suc (cond b 0 (suc (cond c 0 (suc (cond d 0 1))))))))
+    go true b c d p q r s = one (ltb-true x 10 p)
+    go false true c d p q r s = more 0 (ltb-false x 10 p) (ltb-true x 100 q)
+    go false false true d p q r s = more 1 (ltb-false x 100 q) (ltb-true x 1000 r)
+    go false false false true p q r s = more 2 (ltb-false x 1000 r) (ltb-true x 10000 s)
+    go false false false false p q r s = more 3 (ltb-false x 10000 s) (omega arith)
+
+-- Digits with no leading zero are as many as the value is long.
+value-above : (k v : ℕ) (ds : List ℕ) → 10 ^ k ≤ v → 10 ^ (k + length ds) ≤ valueAfter v ds
+value-above k v [] h = let e : k + 0 ≡ k = omega arith in rw e h
+value-above k v (d ∷ ds) h =
+    let e : k + suc (length ds) ≡ suc k + length ds = omega arith in
+    let g : 10 ^ suc k ≡ 10 * 10 ^ k = pow-succ' 10 k in
+    rw e (value-above (suc k) (v * 10 + (d - 48)) ds (omega arith))
+
+value-below : (k v : ℕ) (ds : List ℕ) → AllDigits ds → v < 10 ^ k → valueAfter v ds < 10 ^ (k + length ds)
+value-below k v [] p h = let e : k + 0 ≡ k = omega arith in rw e h
+value-below k v (d ∷ ds) p h =
+    let e : k + suc (length ds) ≡ suc k + length ds = omega arith in
+    let g : 10 ^ suc k ≡ 10 * 10 ^ k = pow-succ' 10 k in
+    rw e (value-below (suc k) (v * 10 + (d - 48)) ds (p .1) (omega arith))
+
+value-long : (ds : List ℕ) → AllDigits ds → unpadded ds ≡ true → Long (valueAfter 0 ds) (length ds)
+value-long [] p h = clash (sym h)
+value-long (d ∷ []) p h = one (omega arith)
+value-long (d ∷ e ∷ ds) p h =
+    let z = eqb-false d 48 (not-true (eqb d 48) h) in
+    let g : suc (length ds) ≡ 0 + suc (length ds) = omega arith in
+    let n : suc (suc (length ds)) ≡ 1 + suc (length ds) = omega arith in
+    more (length ds) (rw g (value-above 0 (0 * 10 + (d - 48)) (e ∷ ds) (omega arith))) (rw n (value-below 1 (0 * 10 + (d - 48)) (e ∷ ds) (p .1) (omega arith)))
+
+-- As many digits as the number is long have no leading zero.
+unpadded-more : (d : ℕ) (ds : List ℕ) → 48 < d → unpadded (d ∷ ds) ≡ true
+unpadded-more d [] h = refl
+unpadded-more d (e ∷ ds) h = ap not (ne-eqb d 48 (λ q. (let z : d ≡ 48 = q in omega arith)))
+
+digits-unpadded : (k x : ℕ) (ds : List ℕ) → 10 ^ k ≤ x → x < 10 ^ suc k → unpadded (digits (suc k) x ++ ds) ≡ true
+digits-unpadded zero x ds p q = unpadded-more (48 + x % 10) ds (omega arith)
+digits-unpadded (suc k) x ds p q =
+    let g : 10 ^ suc k ≡ 10 * 10 ^ k = pow-succ' 10 k in
+    let h : 10 ^ suc (suc k) ≡ 10 * 10 ^ suc k = pow-succ' 10 (suc k) in
+    ap unpadded (append-snoc (digits (suc k) (x / 10)) (48 + x % 10) ds) ∙ digits-unpadded k (x / 10) ((48 + x % 10) ∷ ds) (omega arith) (omega arith)
+
+long-unpadded : {x k : ℕ} → Long x k → unpadded (digits k x) ≡ true
+long-unpadded (one p) = refl
+long-unpadded {x} (more k p q) = ap unpadded (sym (append-nil (digits (suc (suc k)) x))) ∙ digits-unpadded (suc k) x [] p q
+
+-- ---- a number written
+written-all : (x : ℕ) → AllDigits (written x)
+unfolding written
+written-all x = digits-all (decimalLength x) x
+
+written-value : (x : ℕ) → x ≤ 65535 → valueAfter 0 (written x) ≡ x
+unfolding written
+written-value x h = value-digits (decimalLength x) x (long-below (long x h))
+
+written-form : (x : ℕ) → x ≤ 65535 → inForm (written x) ≡ true
+unfolding written
+written-form x h = and-true (long-unpadded (long x h)) (ap (λ (v : ℕ). leb v 65535) (written-value x h) ∙ le-leb x 65535 h)
+
+written-again : (ds : List ℕ) → AllDigits ds → unpadded ds ≡ true → valueAfter 0 ds ≤ 65535 → written (valueAfter 0 ds) ≡ ds
+unfolding written
+written-again ds p u h =
+    let e : length ds ≡ 0 + length ds = omega arith in
+    ap (λ (k : ℕ). digits k (valueAfter 0 ds)) (long-once (long (valueAfter 0 ds) h) (value-long ds p u) ∙ e) ∙ digits-value 0 0 ds p
+
+-- A number has 1 to 5 bytes.
+pub length-written : (x : ℕ) → x ≤ 65535 → (1 ≤ length (written x)) × (length (written x) ≤ 5)
+unfolding written
+length-written x h = rw (length-digits (decimalLength x) x) (go (long x h))
+  where
+    go : {k : ℕ} → Long x k → (1 ≤ k) × (k ≤ 5)
+    go (one p) = omega arith
+    go (more k p q) = omega (arith, order (suc k) 5 x p (omega arith))
+
+pub written-some : (x : ℕ) → x ≤ 65535 → written x ≡ [] → ⊥
+written-some x h e = let n = length-written x h in let z : length (written x) ≡ 0 = ap length e in omega arith
+
+-- ---- a number read
+-- What is known of a number found.
+record Read (text : List ℕ) (at : ℕ) (f : Field) : Type 0 where
+  fits : f .value ≤ 65535
+  bytes : digitsAhead (drop at text) ≡ written (f .value)
+  past : f .next ≡ at + length (written (f .value))
+
+read : (text : List ℕ) (at : ℕ) (f : Field) → numberAt text at ≡ some f → Read text at f
+unfolding numberAt
+read text at f h = go (digitsAhead (drop at text)) refl (inForm (digitsAhead (drop at text))) refl h
+  where
+    go : (ds : List ℕ) → digitsAhead (drop at text) ≡ ds → (b : Bool) → inForm ds ≡ b → cond b (some (record { value = valueAfter 0 ds; next = at + length ds })) none ≡ some f → Read text at f
+    go ds s true e h =
+        let form = both (unpadded ds) (leb (valueAfter 0 ds) 65535) e in
+        let fit : valueAfter 0 ds ≤ 65535 = leb-true (valueAfter 0 ds) 65535 (form .1) in
+        let again = written-again ds (subst AllDigits s (ahead-all (drop at text))) (form .0) fit in
+        let found : record { value = valueAfter 0 ds; next = at + length ds } ≡ f = cc in
+        subst (Read text at) found (record { fits = fit; bytes = s ∙ sym again; past = ap (λ (l : List ℕ). at + length l) (sym again) })
+    go ds s false e h = absurd (let z : _≡_ {A = ℕ} 0 1 = cc in omega arith)
+
+reads-back : (x : ℕ) (front rest : List ℕ) → x ≤ 65535 → digitsAhead rest ≡ [] → numberAt (front ++ (written x ++ rest)) (length front) ≡ some (record { value = x; next = length front + length (written x) })
+unfolding numberAt
+reads-back x front rest h e =
+    ap (λ (l : List ℕ). fieldOf (digitsAhead l) (length front)) (drop-append-seam front (written x ++ rest))
+    ∙ ap (λ (ds : List ℕ). fieldOf ds (length front)) (ahead-append (written x) rest (written-all x) e)
+    ∙ rw (written-form x h, written-value x h)
+
+writes-back : (text : List ℕ) (at : ℕ) (f : Field) → numberAt text at ≡ some f → drop at text ≡ written (f .value) ++ drop (f .next) text
+writes-back text at f h =
+    let r = read text at f h in
+    let past : at + length (digitsAhead (drop at text)) ≡ f .next = ap (λ (l : List ℕ). at + length l) (r .bytes) ∙ sym (r .past) in
+    ahead-drop (drop at text)
+    ∙ (λ i. r .bytes i ++ drop-drop (length (digitsAhead (drop at text))) at text i)
+    ∙ ap (λ (k : ℕ). written (f .value) ++ drop k text) past
+
+pub number-claim : NumberClaim
+number-claim = record {
+  reads-back = reads-back;
+  fits = λ text at f h. read text at f h .fits;
+  writes-back = writes-back;
+  moves-on = λ text at f h. read text at f h .past;
+}

@@ -1,0 +1,5 @@
+-- The text of a profile; reading it, loading it.
+pub mod Texts
+pub mod Reading
+pub mod Loads
+pub mod Linking
