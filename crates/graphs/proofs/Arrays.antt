@@ -1,4 +1,4 @@
--- The array form of a sound image is the same graph, up to the list of edge numbers.
+-- The array form of a sound image, in areas of any length, is the same graph, up to the list of edge numbers.
 -- Each edge stands on one list, once, so all lists together have m edges; the list of u is the part of them between two first positions.
 use mathlib.Core.Path.{_≡_, refl, sym, ap, _∙_, subst}
 use mathlib.Core.Logic.{_⊎_, inl, inr}
@@ -7,21 +7,21 @@ use mathlib.Core.List.{List, [], _∷_, _++_, map, append-nil, append-assoc}
 use Prim.Native.Nat.{ℕ, zero, suc, _+_, _-_, _≤_, _<_}
 use native.Mathlib.Omega.{arith}
 use lib.Dec.{eqb, leb}
-use lib.ListN.{length, getD, take, drop, length-append, length-map}
-use lib.Seq.{drop-cons, drop-nil, take-append-seam, drop-append-seam}
+use lib.ListN.{length, getD, take, drop, length-append, length-map, List·getD-append}
+use lib.Seq.{drop-cons, take-append-seam, drop-append-seam}
 use borrow.Author.Tests.{eqb-true, eq-eqb, ne-eqb, le-leb, le-ltb}
 use Rattle.lists.specs.Members.{Mem, here, there, NoDup}
 use Rattle.lists.specs.Counts.{countIn}
-use Rattle.lists.specs.Words.{at, valuesFrom}
+use Rattle.lists.specs.Words.{at, overlay, valuesFrom}
 use Rattle.lists.proofs.Tests.{and-true, Compared, equal, other, compare}
 use Rattle.lists.proofs.Members.{mem-nil, mem-left, mem-right, mem-append, append-nodup}
 use Rattle.lists.proofs.Counts.{count-mem, count-most, all-of, count-all}
 use Rattle.lists.proofs.Words.{length-values, at-filled}
 use Rattle.graphs.specs.Nodes.{Vertex, Edge, isVertex}
 use Rattle.graphs.specs.Image.{Image, edgesOf, to, listsTo}
-use Rattle.graphs.specs.ArrayForm.{inOrder, arrayGraph, arrayOf, numbersOf}
+use Rattle.graphs.specs.ArrayForm.{ArrayForm, inOrder, arrayGraph, arrayOf, numbersOf, arrayLeft, numbersLeft}
 use Rattle.graphs.specs.Refusals.{tailOut, arrayNumber}
-use Rattle.graphs.specs.Claims.{ArrayClaim}
+use Rattle.graphs.specs.Claims.{SameGraph, ArrayClaim}
 use Rattle.graphs.proofs.Nodes.{vertex-yes}
 use Rattle.graphs.proofs.Sound.{Sound, image-sound}
 
@@ -44,8 +44,10 @@ mem-at : (b : ℕ) (l : List ℕ) (x : ℕ) → b < x → x ≤ b + length l →
 unfolding at
 mem-at b l x p q = stands l (x - suc b) (omega arith)
 
-at-values : (f : ℕ → ℕ) (k x : ℕ) → 0 < x → x ≤ k → at 0 (valuesFrom f 0 k) x ≡ f x
-at-values f k x p q = ap (λ (l : List ℕ). at 0 l x) (sym (append-nil (valuesFrom f 0 k)) ∙ ap (λ (l : List ℕ). valuesFrom f 0 k ++ l) (sym (drop-nil k))) ∙ at-filled f k [] x p q
+-- The words in front of an area are those put there.
+at-over : (b : ℕ) (ws area : List ℕ) (x : ℕ) → b < x → x ≤ b + length ws → at b (overlay ws area) x ≡ at b ws x
+unfolding at
+at-over b ws area x p q = List·getD-append ws (drop (length ws) area) 0 (x - suc b) (omega arith)
 
 -- The words of the nodes n + b + 1 to n + b + k are a part of the area.
 pub part-values : (n : ℕ) (l : List ℕ) (b k : ℕ) → b + k ≤ length l → map (at n l) (valuesFrom (λ p. n + p) b k) ≡ take k (drop b l)
@@ -114,69 +116,91 @@ module _ (g : Image) (S : Sound g) where
   pub lists-few : (u : ℕ) → u ≤ g .n → length (listsTo g u) ≤ g .m
   lists-few u h = omega (arith, begins-length (lists-begin g u (g .n) h), lists-length)
 
-  -- ---- the array form
-  first-at : (v : ℕ) → v ≤ g .n → at 0 (arrayOf g .firsts) (suc v) ≡ suc (length (listsTo g v))
-  first-at v h =
-      let e : suc v - 1 ≡ v = omega arith in
-      at-values (λ u. suc (length (listsTo g (u - 1)))) (suc (g .n)) (suc v) (omega arith) (omega arith) ∙ ap (λ (x : ℕ). suc (length (listsTo g x))) e
+-- ---- the array form, in areas of any length
+module _ (g : Image) (S : Sound g) (firsts tails numbers : List ℕ) where
+  abbrev a : ArrayForm
+  a = arrayLeft g firsts tails
+
+  abbrev all : List ℕ
+  all = numbersOf g
+
+  firsts-length : length (arrayOf g .firsts) ≡ suc (g .n)
+  firsts-length = length-values (λ u. suc (length (listsTo g (u - 1)))) 0 (suc (g .n))
 
   tails-length : length (arrayOf g .tails) ≡ g .m
-  tails-length = length-map (listsTo g (g .n)) (to g) ∙ lists-length
+  tails-length = length-map all (to g) ∙ lists-length g S
 
-  firsts-in-order : inOrder (arrayOf g) ≡ true
+  first-at : (v : ℕ) → v ≤ g .n → at 0 (a .firsts) (suc v) ≡ suc (length (listsTo g v))
+  first-at v h =
+      let e : suc v - 1 ≡ v = omega arith in
+      ap (λ (k : ℕ). at 0 (arrayOf g .firsts ++ drop k firsts) (suc v)) firsts-length
+      ∙ at-filled (λ u. suc (length (listsTo g (u - 1)))) (suc (g .n)) firsts (suc v) (omega arith) (omega arith)
+      ∙ ap (λ (x : ℕ). suc (length (listsTo g x))) e
+
+  -- The tail of a position is where its edge leads.
+  tail-at : (b x : ℕ) → b < x → x ≤ b + g .m → at b (a .tails) x ≡ to g (at b all x)
+  tail-at b x p q =
+      at-over b (arrayOf g .tails) tails x p (omega (arith, tails-length))
+      ∙ at-map b (to g) all x p (omega (arith, lists-length g S))
+
+  firsts-in-order : inOrder a ≡ true
   firsts-in-order =
-      and-true (eq-eqb (at 0 (arrayOf g .firsts) 1) 1 (first-at 0 (omega arith)))
-      (and-true (eq-eqb (at 0 (arrayOf g .firsts) (suc (g .n))) (suc (g .m)) (first-at (g .n) (omega arith) ∙ ap suc lists-length))
-      (all-of (λ u. leb (at 0 (arrayOf g .firsts) u) (at 0 (arrayOf g .firsts) (suc u))) (g .n) rising))
+      and-true (eq-eqb (at 0 (a .firsts) 1) 1 (first-at 0 (omega arith)))
+      (and-true (eq-eqb (at 0 (a .firsts) (suc (g .n))) (suc (g .m)) (first-at (g .n) (omega arith) ∙ ap suc (lists-length g S)))
+      (all-of (λ u. leb (at 0 (a .firsts) u) (at 0 (a .firsts) (suc u))) (g .n) rising))
     where
-      rising : (u : ℕ) → 0 < u → u ≤ g .n → leb (at 0 (arrayOf g .firsts) u) (at 0 (arrayOf g .firsts) (suc u)) ≡ true
+      rising : (u : ℕ) → 0 < u → u ≤ g .n → leb (at 0 (a .firsts) u) (at 0 (a .firsts) (suc u)) ≡ true
       rising zero p q = absurd (omega arith)
-      rising (suc v) p q = le-leb (at 0 (arrayOf g .firsts) (suc v)) (at 0 (arrayOf g .firsts) (suc (suc v))) (omega (arith, first-at v (omega arith), first-at (suc v) q, length-append (listsTo g v) (edgesOf g (suc v))))
+      rising (suc v) p q = le-leb (at 0 (a .firsts) (suc v)) (at 0 (a .firsts) (suc (suc v))) (omega (arith, first-at v (omega arith), first-at (suc v) q, length-append (listsTo g v) (edgesOf g (suc v))))
 
-  tails-in : tailOut (g .n) (g .m) (arrayOf g .tails) ≡ false
+  tails-in : tailOut (g .n) (g .m) (a .tails) ≡ false
   unfolding tailOut
-  tails-in = ap not (all-of (λ k. isVertex (g .n) (at 0 (arrayOf g .tails) k)) (g .m) vertex)
+  tails-in = ap not (all-of (λ k. isVertex (g .n) (at 0 (a .tails) k)) (g .m) vertex)
     where
-      vertex : (k : ℕ) → 0 < k → k ≤ g .m → isVertex (g .n) (at 0 (arrayOf g .tails) k) ≡ true
+      vertex : (k : ℕ) → 0 < k → k ≤ g .m → isVertex (g .n) (at 0 (a .tails) k) ≡ true
       vertex k p q =
-          let h : k ≤ 0 + length (listsTo g (g .n)) = omega (arith, lists-length) in
-          let e : Edge (g .n) (g .m) (at 0 (listsTo g (g .n)) k) = lists-owned (g .n) (omega arith) (at 0 (listsTo g (g .n)) k) (mem-at 0 (listsTo g (g .n)) k p h) .0 in
-          ap (isVertex (g .n)) (at-map 0 (to g) (listsTo g (g .n)) k p h) ∙ vertex-yes (g .n) (to g (at 0 (listsTo g (g .n)) k)) (S .target (at 0 (listsTo g (g .n)) k) e)
+          let e : Edge (g .n) (g .m) (at 0 all k) = lists-owned g S (g .n) (omega arith) (at 0 all k) (mem-at 0 all k p (omega (arith, lists-length g S))) .0 in
+          ap (isVertex (g .n)) (tail-at 0 k p (omega arith)) ∙ vertex-yes (g .n) (to g (at 0 all k)) (S .target (at 0 all k) e)
 
-  query-taken : (x : ℕ) → Vertex (g .n) x → arrayNumber (arrayOf g) x [] ≡ 0
+  query-taken : (x : ℕ) → Vertex (g .n) x → arrayNumber a x [] ≡ 0
   unfolding arrayNumber
   query-taken x h =
       rw (
         ne-eqb (g .n) 0 (λ e. (let z : g .n ≡ 0 = e in omega arith)),
         le-ltb 1000 (g .n) (S .few-vertices),
         le-ltb 4000 (g .m) (S .few-edges),
-        le-ltb (length (arrayOf g .firsts)) (g .n + 1) (omega (arith, length-values (λ u. suc (length (listsTo g (u - 1)))) 0 (suc (g .n)))),
-        le-ltb (length (arrayOf g .tails)) (g .m) (omega (arith, tails-length)),
+        le-ltb (length (a .firsts)) (g .n + 1) (omega (arith, firsts-length, length-append (arrayOf g .firsts) (drop (length (arrayOf g .firsts)) firsts))),
+        le-ltb (length (a .tails)) (g .m) (omega (arith, tails-length, length-append (arrayOf g .tails) (drop (length (arrayOf g .tails)) tails))),
         vertex-yes (g .n) x h,
         firsts-in-order,
         tails-in,
       )
 
-  list-part : (u : ℕ) → Vertex (g .n) u → map (at (g .n) (numbersOf g)) (arrayGraph (arrayOf g) .out u) ≡ edgesOf g u
+  list-part : (u : ℕ) → Vertex (g .n) u → map (at (g .n) (numbersLeft g numbers)) (arrayGraph a .out u) ≡ edgesOf g u
   list-part zero h = absurd (omega arith)
   list-part (suc v) h =
       let b = lists-begin g (suc v) (g .n) (h .1) in
-      let a = first-at v (omega arith) in
-      let z = first-at (suc v) (h .1) in
+      let past = drop (length all) numbers in
+      let one = first-at v (omega arith) in
+      let two = first-at (suc v) (h .1) in
       let sum = length-append (listsTo g v) (edgesOf g (suc v)) in
-      let from : at 0 (arrayOf g .firsts) (suc v) - 1 ≡ length (listsTo g v) = omega arith in
-      let long : at 0 (arrayOf g .firsts) (suc (suc v)) - at 0 (arrayOf g .firsts) (suc v) ≡ length (edgesOf g (suc v)) = omega arith in
-      (λ i. map (at (g .n) (numbersOf g)) (valuesFrom (λ p. g .n + p) (from i) (long i)))
-      ∙ part-values (g .n) (numbersOf g) (length (listsTo g v)) (length (edgesOf g (suc v))) (omega (arith, begins-length b))
-      ∙ ap (λ (l : List ℕ). take (length (edgesOf g (suc v))) (drop (length (listsTo g v)) l)) (b .splits ∙ append-assoc (listsTo g v) (edgesOf g (suc v)) (b .rest))
-      ∙ ap (take (length (edgesOf g (suc v)))) (drop-append-seam (listsTo g v) (edgesOf g (suc v) ++ b .rest))
-      ∙ take-append-seam (edgesOf g (suc v)) (b .rest)
+      let from : at 0 (a .firsts) (suc v) - 1 ≡ length (listsTo g v) = omega arith in
+      let long : at 0 (a .firsts) (suc (suc v)) - at 0 (a .firsts) (suc v) ≡ length (edgesOf g (suc v)) = omega arith in
+      let whole : numbersLeft g numbers ≡ listsTo g v ++ (edgesOf g (suc v) ++ (b .rest ++ past)) =
+      ap (λ (l : List ℕ). l ++ past) (b .splits) ∙ append-assoc (listsTo g (suc v)) (b .rest) past ∙ append-assoc (listsTo g v) (edgesOf g (suc v)) (b .rest ++ past) in
+      (λ i. map (at (g .n) (numbersLeft g numbers)) (valuesFrom (λ p. g .n + p) (from i) (long i)))
+      ∙ part-values (g .n) (numbersLeft g numbers) (length (listsTo g v)) (length (edgesOf g (suc v))) (omega (arith, begins-length b, length-append all past))
+      ∙ ap (λ (l : List ℕ). take (length (edgesOf g (suc v))) (drop (length (listsTo g v)) l)) whole
+      ∙ ap (take (length (edgesOf g (suc v)))) (drop-append-seam (listsTo g v) (edgesOf g (suc v) ++ (b .rest ++ past)))
+      ∙ take-append-seam (edgesOf g (suc v)) (b .rest ++ past)
+
+  same-graph : SameGraph g a (numbersLeft g numbers)
+  same-graph =
+      record {
+        taken = query-taken;
+        lists = list-part;
+        targets = λ p e. tail-at (g .n) p (e .0) (e .1) ∙ ap (to g) (sym (at-over (g .n) all numbers p (e .0) (omega (arith, lists-length g S))));
+      }
 
 pub array-same : ArrayClaim
-array-same g areas h =
-    let S = image-sound g areas h .0 in
-    record {
-      taken = query-taken g S;
-      lists = list-part g S;
-      targets = λ p e. at-map (g .n) (to g) (listsTo g (g .n)) p (e .0) (omega (arith, lists-length g S));
-    }
+array-same g areas firsts tails numbers h = same-graph g (image-sound g areas h .0) firsts tails numbers

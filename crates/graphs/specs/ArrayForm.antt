@@ -5,7 +5,7 @@ use Prim.Native.Nat.{ℕ, suc, _+_, _-_}
 use lib.Dec.{eqb, leb}
 use lib.ListN.{length}
 use Rattle.lists.specs.Counts.{allTo}
-use Rattle.lists.specs.Words.{at, valuesFrom}
+use Rattle.lists.specs.Words.{at, overlay, valuesFrom}
 use Rattle.graphs.specs.Graph.{Graph}
 use Rattle.graphs.specs.Image.{Image, to, listsTo}
 
@@ -40,3 +40,10 @@ arrayOf g = record {
 -- The reference number of each position.
 abbrev pub numbersOf : Image → List ℕ
 numbersOf g = listsTo g (g .n)
+
+-- The array form of an image in two areas, and the edge numbers in a third; the words past them stay.
+abbrev pub arrayLeft : Image → List ℕ → List ℕ → ArrayForm
+arrayLeft g firsts tails = record { n = g .n; m = g .m; firsts = overlay (arrayOf g .firsts) firsts; tails = overlay (arrayOf g .tails) tails }
+
+abbrev pub numbersLeft : Image → List ℕ → List ℕ
+numbersLeft g numbers = overlay (numbersOf g) numbers

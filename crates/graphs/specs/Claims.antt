@@ -15,7 +15,7 @@ use Rattle.graphs.specs.Depth.{DepthFirst}
 use Rattle.graphs.specs.Breadth.{BreadthFirst}
 use Rattle.graphs.specs.Search.{recorder, search, depthFirst, drain, breadthFirst}
 use Rattle.graphs.specs.Image.{Image, edgesOf, to, graphOf}
-use Rattle.graphs.specs.ArrayForm.{arrayGraph, arrayOf, numbersOf}
+use Rattle.graphs.specs.ArrayForm.{ArrayForm, arrayGraph, arrayLeft, numbersLeft}
 use Rattle.graphs.specs.Refusals.{Lent, short, imageAreas, sound, imageNumber, searchNumber, arrayNumber}
 
 -- A search may begin: a graph, vertices labelled beforehand, and a start that is not among them.
@@ -71,12 +71,13 @@ RoomClaim = (g : Image) (start : ℕ) (areas : List Lent) → searchNumber g sta
 abbrev pub TallyClaim : Type 0
 TallyClaim = (h : History) → sumOf (λ k. k) (tally h) ≡ length h
 
--- The array form of an image is the same graph, up to the list of edge numbers: position p of the array form, named n + p, is the
--- edge that stands at p in that list. Every query of it, and every search, is taken.
-pub record SameGraph (g : Image) : Type 0 where
-  pub taken : (x : ℕ) → Vertex (g .n) x → arrayNumber (arrayOf g) x [] ≡ 0
-  pub lists : (u : ℕ) → Vertex (g .n) u → map (λ p. at (g .n) (numbersOf g) p) (arrayGraph (arrayOf g) .out u) ≡ edgesOf g u
-  pub targets : (p : ℕ) → Edge (g .n) (g .m) p → arrayGraph (arrayOf g) .to p ≡ to g (at (g .n) (numbersOf g) p)
+-- The array form is the same graph as the image, up to the list of edge numbers: position p, named n + p, is the edge that stands at p
+-- in that list. Every query of it, and every search, is taken.
+pub record SameGraph (g : Image) (a : ArrayForm) (numbers : List ℕ) : Type 0 where
+  pub taken : (x : ℕ) → Vertex (g .n) x → arrayNumber a x [] ≡ 0
+  pub lists : (u : ℕ) → Vertex (g .n) u → map (λ p. at (g .n) numbers p) (arrayGraph a .out u) ≡ edgesOf g u
+  pub targets : (p : ℕ) → Edge (g .n) (g .m) p → arrayGraph a .to p ≡ to g (at (g .n) numbers p)
 
+-- So is what a conversion leaves in any areas.
 abbrev pub ArrayClaim : Type 0
-ArrayClaim = (g : Image) (areas : List Lent) → imageNumber g areas ≡ 0 → SameGraph g
+ArrayClaim = (g : Image) (areas : List Lent) (firsts tails numbers : List ℕ) → imageNumber g areas ≡ 0 → SameGraph g (arrayLeft g firsts tails) (numbersLeft g numbers)

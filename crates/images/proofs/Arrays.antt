@@ -2,7 +2,7 @@
 -- First positions that begin with 1, never fall and end with m + 1 lie between 1 and m + 1.
 use mathlib.Core.Path.{_≡_, refl, sym, ap, _∙_}
 use mathlib.Core.Bool.{Bool, true, false, not, _&&_}
-use mathlib.Core.List.{List, [], _∷_, _++_}
+use mathlib.Core.List.{List, [], _∷_, _++_, map}
 use Prim.Native.Nat.{ℕ, zero, suc, _+_, _-_, _≤_, _<_}
 use native.Mathlib.Numerals.{add-one}
 use native.Mathlib.Omega.{arith}
@@ -10,17 +10,18 @@ use lib.Dec.{eqb, leb}
 use lib.ListN.{length, getD, take, drop}
 use borrow.Author.Tests.{eqb-true, eq-eqb, leb-true, le-leb, not-false}
 use Rattle.lists.specs.Counts.{allTo}
-use Rattle.lists.specs.Words.{at}
+use Rattle.lists.specs.Words.{at, valuesFrom}
 use Rattle.lists.proofs.Tests.{and-true, both, Compared, equal, other, compare}
 use Rattle.lists.proofs.Counts.{all-at, all-of}
 use Rattle.graphs.specs.Nodes.{Vertex}
-use Rattle.graphs.specs.ArrayForm.{ArrayForm}
+use Rattle.graphs.specs.Image.{to}
+use Rattle.graphs.specs.ArrayForm.{ArrayForm, arrayGraph, arrayLeft, numbersLeft}
 use Rattle.graphs.specs.Refusals.{refuse, vertexOut, firstOut, tailOut, sizeRefusals, arrayAreas, arrayNumber, lent}
 use Rattle.graphs.proofs.Nodes.{vertex-is}
 use Rattle.graphs.proofs.Refusals.{all-false, long}
-use Rattle.graphs.proofs.Arrays.{part-values}
+use Rattle.graphs.proofs.Arrays.{part-values, array-same}
 use Rattle.images.specs.Arrays.{unlessRefused, arrayIn, partOf, queried}
-use Rattle.images.specs.Claims.{QueryClaim}
+use Rattle.images.specs.Claims.{QueryClaim, ConvertClaim}
 use Rattle.images.proofs.Checks.{word-here}
 
 -- ---- first positions
@@ -130,6 +131,21 @@ pub query-edges : QueryClaim
 query-edges a u h =
     let k = asked a u h in
     query-taken a u h ∙ sym (part-values (a .n) (a .tails) (at 0 (a .firsts) u - 1) (at 0 (a .firsts) (suc u) - at 0 (a .firsts) u) (omega (arith, read-at (a .firsts) u, word-here (a .firsts) u)))
+
+-- Positions b + 1 to b + k, where f is h of the number that g gives.
+map-twice : (f g h : ℕ → ℕ) (n b k : ℕ) → ((p : ℕ) → n + b < p → p ≤ n + b + k → f p ≡ h (g p)) → map f (valuesFrom (λ p. n + p) b k) ≡ map h (map g (valuesFrom (λ p. n + p) b k))
+map-twice f g h n b zero e = refl
+map-twice f g h n b (suc k) e = (λ i. e (n + suc b) (omega arith) (omega arith) i ∷ map-twice f g h n (suc b) k (λ p q r. e p (omega arith) (omega arith)) i)
+
+pub convert-queries : ConvertClaim
+convert-queries g areas firsts tails h u v =
+    let a = arrayLeft g firsts tails in
+    let same = array-same g areas firsts tails [] h in
+    let k = asked a u (same .taken u v) in
+    query-edges a u (same .taken u v)
+    ∙ map-twice (arrayGraph a .to) (at (g .n) (numbersLeft g [])) (to g) (g .n) (at 0 (a .firsts) u - 1) (at 0 (a .firsts) (suc u) - at 0 (a .firsts) u)
+    (λ p q r. same .targets p (omega arith, omega (arith, read-at (a .firsts) u, word-here (a .firsts) u)))
+    ∙ ap (map (to g)) (same .lists u v)
 
 -- A refused call leaves the old words.
 pub refused : (k : ℕ) (new old : List ℕ) → (k ≡ 0 → ⊥) → old ≡ unlessRefused k new old
