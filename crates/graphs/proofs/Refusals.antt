@@ -10,8 +10,9 @@ use lib.ListN.{length}
 use lib.Dec.{ltb}
 use borrow.Author.Tests.{eqb-false, ltb-false}
 use Rattle.lists.proofs.Tests.{clash, neither}
-use Rattle.graphs.specs.Refusals.{Refusal, refuse, firstOf, verticesOut, edgesOut, vertexOut, afterOut, tailOut, listOut, Lent, lent, short, imageAreas, sound, searchNumber}
-use Rattle.graphs.specs.Claims.{SoundClaim}
+use Rattle.graphs.specs.Nodes.{isVertex}
+use Rattle.graphs.specs.Refusals.{Refusal, refuse, firstOf, verticesOut, edgesOut, vertexOut, afterOut, tailOut, listOut, Lent, lent, short, imageAreas, sound, imageNumber, searchNumber}
+use Rattle.graphs.specs.Claims.{SoundClaim, CheckedClaim}
 
 -- No number is 0.
 abbrev pub Numbered : List Refusal → Type 0
@@ -52,3 +53,16 @@ none-true false false false false false false false = (λ q. (refl, refl), λ q.
 pub taken-sound : SoundClaim
 unfolding sound searchNumber
 taken-sound g start areas = none-true (verticesOut (g .n)) (edgesOut (g .m)) (short (imageAreas g ++ areas)) (vertexOut (g .n) start) (afterOut g) (tailOut (g .n) (g .m) (g .tail)) (listOut g)
+
+-- Of seven conditions none is true, exactly where none but the fourth is true, and that one is false.
+none-but : (a b h c d e f : Bool) → (firstOf (refuse 1 a ∷ refuse 2 b ∷ refuse 3 h ∷ refuse 4 (not c) ∷ refuse 5 d ∷ refuse 6 e ∷ refuse 7 f ∷ []) ≡ 0)
+    ↔ ((firstOf (refuse 1 a ∷ refuse 2 b ∷ refuse 3 h ∷ refuse 5 d ∷ refuse 6 e ∷ refuse 7 f ∷ []) ≡ 0) × (c ≡ true))
+none-but true b h c d e f = (λ q. absurd (eqb-false 1 0 refl q), λ q. absurd (eqb-false 1 0 refl (q .0)))
+none-but false true h c d e f = (λ q. absurd (eqb-false 2 0 refl q), λ q. absurd (eqb-false 2 0 refl (q .0)))
+none-but false false true c d e f = (λ q. absurd (eqb-false 3 0 refl q), λ q. absurd (eqb-false 3 0 refl (q .0)))
+none-but false false false false d e f = (λ q. absurd (eqb-false 4 0 refl q), λ q. clash (sym (q .1)))
+none-but false false false true d e f = (λ q. (q, refl), λ q. q .0)
+
+pub checked-sound : CheckedClaim
+unfolding imageNumber searchNumber
+checked-sound g start areas = none-but (verticesOut (g .n)) (edgesOut (g .m)) (short (imageAreas g ++ areas)) (isVertex (g .n) start) (afterOut g) (tailOut (g .n) (g .m) (g .tail)) (listOut g)

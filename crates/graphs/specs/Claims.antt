@@ -8,7 +8,7 @@ use lib.ListN.{length}
 use Rattle.lists.specs.Members.{Mem, NoDup}
 use Rattle.lists.specs.Counts.{countIn, sumOf}
 use Rattle.lists.specs.Words.{at}
-use Rattle.graphs.specs.Nodes.{Vertex, Edge}
+use Rattle.graphs.specs.Nodes.{Vertex, Edge, isVertex}
 use Rattle.graphs.specs.Graph.{Graph, Closed, Reached, met}
 use Rattle.graphs.specs.Events.{History, _▸_, event, label, advance-tree, advance-nontree, retreat-tree, retreat-nontree, traverse, labelled, scanned, traversed, count, tally, words}
 use Rattle.graphs.specs.Depth.{DepthFirst}
@@ -61,6 +61,10 @@ BreadthFirstClaim = (G : Graph) (before : List ℕ) (start : ℕ) → Ready G be
 -- A search is taken exactly where the profile is sound and the areas are as long as stated.
 abbrev pub SoundClaim : Type 0
 SoundClaim = (g : Image) (start : ℕ) (areas : List Lent) → (searchNumber g start areas ≡ 0) ↔ ((sound g start ≡ true) × (short (imageAreas g ++ areas) ≡ false))
+
+-- An image that the checker takes is a sound profile with every start in 1 to n.
+abbrev pub CheckedClaim : Type 0
+CheckedClaim = (g : Image) (start : ℕ) (areas : List Lent) → (searchNumber g start areas ≡ 0) ↔ ((imageNumber g areas ≡ 0) × (isVertex (g .n) start ≡ true))
 
 -- Of a sound profile, the events of either search fit 6 (n + m) words.
 abbrev pub RoomClaim : Type 0

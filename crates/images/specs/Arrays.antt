@@ -1,8 +1,8 @@
 -- Converting an image to array form, and asking an array form for the references of one element.
-use mathlib.Core.List.{List, [], _∷_, _++_}
+use mathlib.Core.List.{List, [], _∷_}
 use Prim.Native.Nat.{ℕ, zero, suc, _+_, _-_}
 use lib.ListN.{take, drop}
-use Rattle.lists.specs.Words.{at, overlay}
+use Rattle.lists.specs.Words.{at}
 use Rattle.graphs.specs.Image.{Image}
 use Rattle.graphs.specs.ArrayForm.{ArrayForm}
 use Rattle.graphs.specs.Refusals.{Lent, lent, imageNumber, arrayNumber}

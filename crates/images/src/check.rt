@@ -5,7 +5,7 @@ use crate::nodes::is_link;
 use crate::nodes::is_vertex;
 ghost use mathlib.Core.Path.{_≡_};
 ghost use mathlib.Core.List.{List, []};
-ghost use Prim.Native.Nat.{ℕ, suc, _≤_};
+ghost use Prim.Native.Nat.{ℕ, _≤_};
 ghost use lib.ListN.{length};
 ghost use Rattle.graphs.specs.Refusals.{afterOut, tailOut, listOut, imageNumber, firstOf, imageRefusals};
 ghost use Rattle.images.specs.Checking.{image, listFrom, Sized, Chained, flagAll, Follows};

@@ -1,7 +1,6 @@
 // Numbers of the text.
 ghost use mathlib.Core.Path.{_≡_};
-ghost use Prim.Native.Nat.{_+_, _≤_, _<_};
-ghost use lib.ListN.{length};
+ghost use Prim.Native.Nat.{_+_, _<_};
 ghost use Rattle.numbers.specs.Decimal.{decimalLength, written, putAt, pastAt, isDigit, numberAt};
 ghost use Rattle.numbers.specs.Answers.{numberFound};
 

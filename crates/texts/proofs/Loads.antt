@@ -12,9 +12,9 @@ use lib.ListN.{length, getD, drop, length-append, length-map}
 use lib.Seq.{drop-drop, drop-at, getD-drop}
 use borrow.Author.Tests.{eq-eqb, ne-eqb, not-false}
 use Rattle.lists.specs.Members.{Mem, here, there, consIf}
-use Rattle.lists.specs.Counts.{bump, countIn, allTo}
+use Rattle.lists.specs.Counts.{bump, countIn}
 use Rattle.lists.specs.Words.{at, valuesFrom, filled}
-use Rattle.lists.proofs.Tests.{and-true, both, neither, Compared, equal, other, compare}
+use Rattle.lists.proofs.Tests.{both, neither, Compared, equal, other, compare}
 use Rattle.lists.proofs.Members.{mem-nil, each-cons, mem-append}
 use Rattle.lists.proofs.Counts.{count-append, all-of}
 use Rattle.lists.proofs.Words.{length-values, at-filled}

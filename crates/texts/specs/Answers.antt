@@ -2,7 +2,7 @@
 use mathlib.Core.Bool.{Bool}
 use mathlib.Core.Option.{Option, none, some}
 use Prim.Native.Nat.{ℕ}
-use Rattle.texts.specs.Text.{Line, Listing, Found, Head}
+use Rattle.texts.specs.Text.{Found, Head}
 use Rattle.texts.specs.Loading.{Reading, refused, loaded}
 use Rattle.texts.specs.declared.Profile.{Profile}
 use Rattle.texts.specs.declared.Profile.the-variants as profile

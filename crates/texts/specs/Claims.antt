@@ -9,7 +9,7 @@ use Rattle.graphs.specs.Nodes.{Vertex}
 use Rattle.graphs.specs.Image.{edgesOf, to}
 use Rattle.graphs.specs.Refusals.{sound}
 use Rattle.texts.specs.Text.{Listing, Writable, textOf, listingOf}
-use Rattle.texts.specs.Loading.{Reading, loaded, reading, edgesFrom, tailOf, imageIn}
+use Rattle.texts.specs.Loading.{loaded, reading, edgesFrom, tailOf, imageIn}
 
 -- Reading what is written of a profile gives the profile back; a text in its form is what is written of what it says.
 pub record TextClaim : Type 0 where

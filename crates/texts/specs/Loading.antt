@@ -1,5 +1,5 @@
 -- Reading a profile's text into lent areas: when it is refused, and the words that it leaves.
-use mathlib.Core.Bool.{Bool, true, false, cond, not, _&&_, _||_}
+use mathlib.Core.Bool.{Bool, false, cond, not, _&&_, _||_}
 use mathlib.Core.List.{List, [], _∷_, _++_, map}
 use mathlib.Core.Option.{Option, none, some}
 use Prim.Native.Nat.{ℕ, zero, suc, _+_}
@@ -9,7 +9,7 @@ use Rattle.lists.specs.Members.{consIf}
 use Rattle.lists.specs.Words.{overlay, valuesFrom}
 use Rattle.graphs.specs.Nodes.{isVertex}
 use Rattle.graphs.specs.Image.{Image}
-use Rattle.graphs.specs.Refusals.{Refusal, refuse, firstOf, lent, sizeRefusals, vertexOut, textOut}
+use Rattle.graphs.specs.Refusals.{refuse, firstOf, lent, sizeRefusals, vertexOut, textOut}
 use Rattle.texts.specs.Text.{Line, Listing, listingOf}
 
 -- ---- the image of a listing

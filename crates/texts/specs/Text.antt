@@ -52,11 +52,12 @@ linesText (l ∷ ls) = row (l .from ∷ l .to ∷ []) ++ linesText ls
 unfoldable pub textOf : Listing → List ℕ
 textOf p = elementNames ++ (row (p .n ∷ p .m ∷ p .start ∷ []) ++ (lineNames ++ linesText (p .lines)))
 
--- A text can say it: every number is at most 65,535, and there are as many value lines as references.
+-- The numbers of value lines are at most 65,535.
 abbrev pub Short : List Line → Type 0
 Short [] = Unit {0}
 Short (l ∷ ls) = (l .from ≤ 65535) × (l .to ≤ 65535) × Short ls
 
+-- A text can say it: every number is at most 65,535, and there are as many value lines as references.
 pub record Writable (p : Listing) : Type 0 where
   pub n-fits : p .n ≤ 65535
   pub m-fits : p .m ≤ 65535

@@ -6,7 +6,7 @@ use numbers::read_number;
 ghost use mathlib.Core.Path.{_≡_};
 ghost use mathlib.Core.List.{List, map};
 ghost use mathlib.Core.Option.{some};
-ghost use Prim.Native.Nat.{ℕ, suc, _+_, _≤_, _<_};
+ghost use Prim.Native.Nat.{ℕ, _+_, _≤_, _<_};
 ghost use lib.ListN.{length, drop};
 ghost use Rattle.lists.specs.Words.{overlay, pasted, cleared};
 ghost use Rattle.texts.specs.Text.{Line, begins, andThen, fieldAt, lineAt, linesAt, headAt};
