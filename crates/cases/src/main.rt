@@ -1,0 +1,133 @@
+// Runs the calls of the crates below on cases, and compares every answer and every lent word with a second implementation. One line is
+// printed for each group of cases: how many there are, how many differ, and how many were answered with each number of document 01.
+mod areas;
+mod calls;
+mod chance;
+mod conversions;
+mod digits;
+mod drawn;
+mod image;
+mod limits;
+mod listing;
+mod nodes;
+mod profiles;
+mod queries;
+mod reader;
+mod rows;
+mod tally;
+mod text_rows;
+mod writer;
+
+use crate::areas::Desk;
+use crate::areas::Text;
+use crate::tally::Outcome;
+use crate::tally::Tally;
+use crate::tally::count;
+use crate::tally::print_tally;
+
+// Case i of a group on images.
+fn image_case(d: &mut Desk, group: u16, i: usize) -> Outcome {
+    match group {
+        0 => rows::check_case(d, i),
+        1 => drawn::check_case(d, i as u64),
+        2 => rows::conversion_case(d, i),
+        3 => conversions::sound_case(d, i as u64),
+        _ => conversions::damaged_case(d, i as u64),
+    }
+}
+
+// Case i of a group on array forms.
+fn array_case(d: &mut Desk, group: u16, i: usize) -> Outcome {
+    match group {
+        5 => rows::query_case(d, i),
+        6 => queries::sound_case(d, i as u64),
+        _ => queries::damaged_case(d, i as u64),
+    }
+}
+
+// Case i of a group on texts.
+fn text_case(d: &mut Desk, text: &mut Text, group: u16, i: usize) -> Outcome {
+    match group {
+        8 => text_rows::text_case(d, text, i),
+        9 => profiles::sound_case(d, text, i as u64),
+        _ => profiles::damaged_case(d, text, i as u64),
+    }
+}
+
+// Case i of a group on numbers.
+fn number_case(text: &mut Text, group: u16, i: usize) -> Outcome {
+    match group {
+        11 => digits::value_case(text, i),
+        12 => digits::room_case(text, i as u64),
+        13 => digits::digits_case(text, i as u64),
+        14 => nodes::vertex_case(i as u64),
+        _ => nodes::link_case(i as u64),
+    }
+}
+
+// Case i of a group.
+fn case(d: &mut Desk, text: &mut Text, group: u16, i: usize) -> Outcome {
+    match group {
+        0..=4 => image_case(d, group, i),
+        5..=7 => array_case(d, group, i),
+        8..=10 => text_case(d, text, group, i),
+        _ => number_case(text, group, i),
+    }
+}
+
+fn cases(d: &mut Desk, text: &mut Text, t: &mut Tally, group: u16, top: usize) {
+    let mut i: usize = 0;
+    while i < top {
+        let o = case(d, text, group, i);
+        count(t, o);
+        i += 1;
+    }
+}
+
+// Runs the first `top` cases of a group and prints what they gave.
+fn print(name: &[u8], group: u16, top: usize) {
+    let mut d = [0u16; 61200];
+    let mut text = [0u8; 132000];
+    let mut t = [0usize; 16];
+    cases(&mut d, &mut text, &mut t, group, top);
+    print_tally(name, &t);
+}
+
+fn print_images() {
+    print(b"check_image: examples and limits", 0, 32);
+    print(b"check_image: damaged images", 1, 4000);
+    print(b"to_array: examples and limits", 2, 25);
+    print(b"to_array: sound images", 3, 2000);
+    print(b"to_array: damaged images", 4, 3000);
+}
+
+fn print_arrays() {
+    print(b"edges_out: examples and limits", 5, 20);
+    print(b"edges_out: sound array forms", 6, 2000);
+    print(b"edges_out: damaged array forms", 7, 4000);
+}
+
+fn print_texts() {
+    print(b"read_profile: examples and limits", 8, 49);
+    print(b"read_profile: texts in form", 9, 2000);
+    print(b"read_profile: damaged texts", 10, 6000);
+}
+
+fn print_numbers() {
+    print(b"write_number and read_number: every number", 11, 65536);
+    print(b"write_number: with and without room", 12, 4000);
+    print(b"read_number: in form and not", 13, 4000);
+    print(b"is_vertex", 14, 4000);
+    print(b"is_link", 15, 4000);
+}
+
+fn main() {
+    io::write_all(
+        1,
+        b"group,cases,differing,0,1,2,3,4,5,6,7,8,9,10,11,12,13\n",
+    );
+    print_images();
+    print_arrays();
+    print_texts();
+    print_numbers();
+}
