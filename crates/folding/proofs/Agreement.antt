@@ -21,17 +21,18 @@ use Rattle.graphs.specs.Image.{Image, graphOf}
 use Rattle.graphs.specs.Refusals.{lent}
 use Rattle.graphs.specs.Claims.{Ready}
 use Rattle.graphs.proofs.Refusals.{long}
-use Rattle.graphs.proofs.Sound.{Sound, Profile, profile-sound, met-most}
+use Rattle.graphs.proofs.Sound.{Sound, Profile, profile-sound}
+use Rattle.graphs.proofs.Owned.{met-most, image-owned}
 use Rattle.graphs.proofs.Labels.{labels-few, reached-labels}
 use Rattle.graphs.proofs.Results.{named-length}
 use Rattle.graphs.proofs.Depth.{depth-first, depth-relates}
 use Rattle.graphs.proofs.Room.{profile-ready}
+use Rattle.graphs.proofs.Places.{Frame, finishing}
 use Rattle.folding.specs.Machine.{Config, walking, restoring, finished, rollingBack, rolledBack}
 use Rattle.folding.specs.Calls.{Reason, ended, spent, stuck, Reply, unless, over, run, Call, runFor, numberOf, perform, serve, opening, openNumber, unopened, openedAt, openReply}
 use Rattle.folding.specs.Lines.{Line, begun, calls, lineA, lineB, folded}
 use Rattle.folding.specs.Claims.{circularOf, stopReason, Faultless, Labelling, Demand2, Agrees, Agreement}
-use Rattle.folding.proofs.Bent.{Frame}
-use Rattle.folding.proofs.Future.{allOf, finishing, advances, scans, Short, short, prefix-of}
+use Rattle.folding.proofs.Future.{allOf, advances, scans, Short, short, prefix-of}
 use Rattle.folding.proofs.Invariant.{Trace, Scene, Holds, at-walking, at-restoring, at-rolling, at-end, at-undone, weight}
 use Rattle.folding.proofs.Runs.{run-stops}
 use Rattle.folding.proofs.Running.{Free, advance, Ran, run-holds}
@@ -71,7 +72,7 @@ module _ (g : Image) (S : Sound g) (start : ℕ) (hs : Vertex (g .n) start) (are
   history-is l H = ap reverse (H .events) ∙ reverse-reverse (H .history)
 
   agrees-open : (ph : ℕ) (l : Line) (H : Held g S start hs area lm l) (v : ℕ) (done rest ahead : List ℕ) (s : List Frame) (stale : ℕ) (vs : List ℕ) → Reached (graphOf g) [] start vs → (ph ≡ finished → ⊥) → (ph ≡ rolledBack → ⊥)
-      → Scene g start area ph (traceOf l (H .history)) v done rest s stale → finishing g s v ahead (H .history) ≡ allOf g start → l .rolling ≡ false → l .steps + weight done s ≡ 2 * advances (H .history) + scans (H .history) → Agrees g start vs l
+      → Scene g start area ph (traceOf l (H .history)) v done rest s stale → finishing (graphOf g) s v ahead (H .history) ≡ allOf g start → l .rolling ≡ false → l .steps + weight done s ≡ 2 * advances (H .history) + scans (H .history) → Agrees g start vs l
   agrees-open ph l H v done rest ahead s stale vs E n3 n5 C fut calm cnt =
       let sh : Short (H .history) (allOf g start) = subst (Short (H .history)) fut (short g s v ahead (H .history)) in
       let x3 : l .config .phase ≡ finished → ⊥ = phase-is ph finished (traceOf l (H .history)) v done rest s stale C n3 in
@@ -173,7 +174,7 @@ module _ (g : Image) (S : Sound g) (start : ℕ) (hs : Vertex (g .n) start) (are
   total-most =
       let E = depth-first (graphOf g) [] start R .complete .labels in
       let L = reached-labels (graphOf g) [] start R (labelled (allOf g start)) E in
-      omega (arith, met-is g start R (labelled (allOf g start)) E, reached-is g start R (labelled (allOf g start)) E, met-most g S (labelled (allOf g start)) L, labels-few (g .n) (labelled (allOf g start)) L)
+      omega (arith, met-is g start R (labelled (allOf g start)) E, reached-is g start R (labelled (allOf g start)) E, met-most (image-owned g S) (labelled (allOf g start)) L, labels-few (g .n) (labelled (allOf g start)) L)
 
   -- A run that says spent or ended, and is not over, has spent its budget.
   spent-all : (k made : ℕ) (w : Config) (why : Reason) → why ≡ stopReason k made w → Free why → over w ≡ false → made ≡ k

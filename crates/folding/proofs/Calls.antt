@@ -16,23 +16,23 @@ use Rattle.lists.proofs.Members.{mem-nil}
 use Rattle.lists.proofs.Words.{length-put, put-at, length-cleared}
 use Rattle.graphs.specs.Nodes.{Vertex}
 use Rattle.graphs.specs.Events.{Event, event, label, advance-nontree, count, History, _▸_, labelled}
-use Rattle.graphs.specs.Search.{depthFirst}
 use Rattle.graphs.specs.Results.{marksLeft}
 use Rattle.graphs.specs.Image.{Image, edgesOf, graphOf}
 use Rattle.graphs.specs.Refusals.{Refusal, refuse, firstOf, verticesOut, edgesOut, vertexOut}
 use Rattle.graphs.proofs.Nodes.{vertex-yes}
-use Rattle.graphs.proofs.Labels.{Labels, label-ok, labels-few}
-use Rattle.graphs.proofs.Sound.{Sound, graph-closed}
-use Rattle.graphs.proofs.DepthGrowth.{search-unroll}
+use Rattle.graphs.proofs.Labels.{Labels, labels-few}
+use Rattle.graphs.proofs.Sound.{Sound}
+use Rattle.graphs.proofs.Room.{profile-ready}
+use Rattle.graphs.proofs.Places.{Frame, parent, finishing, scene-first}
 use Rattle.graphs.proofs.Results.{marks-first, marks-length}
 use Rattle.folding.specs.Machine.{Config, walking, restoring, finished, rollingBack, rolledBack, canStep, step}
 use Rattle.folding.specs.Calls.{Reason, ended, spent, stuck, Answer, ran, refused, refusing, unless, over, fieldsIn, stateNumber, workAreas, stepRefusals, inPhase, run, Call, runFor, single, rollBack, areaOf, numberOf, perform, serve, openedAt, runNumber, stepNumber, rollBackNumber}
 use Rattle.folding.specs.Lines.{Line, orders, addIf, noted, calls, folded}
 use Rattle.folding.specs.Claims.{flag, Faultless}
-use Rattle.folding.proofs.Bent.{Frame, parent, bentAfter, configAt, configEnd}
+use Rattle.folding.proofs.Bent.{bentAfter, configAt, configEnd}
 use Rattle.folding.proofs.Links.{length-bend, length-bentAfter, length-bentTail}
 use Rattle.folding.proofs.Steps.{link-rest, node-top}
-use Rattle.folding.proofs.Future.{allOf, finishing, Short, short, in-order}
+use Rattle.folding.proofs.Future.{allOf, Short, short, in-order}
 use Rattle.folding.proofs.Invariant.{Trace, tick, Scene, Closed, Holds, at-walking, at-restoring, at-rolling, at-end, at-undone, Moves, move}
 use Rattle.folding.proofs.Fields.{fields-yes}
 use Rattle.folding.proofs.Running.{since-none, Calm, calm-more, Free, Ran, run-holds}
@@ -177,7 +177,7 @@ module _ (g : Image) (S : Sound g) (start : ℕ) (hs : Vertex (g .n) start) (are
   order-scene : (ph : ℕ) (t : Trace) (v : ℕ) (done rest : List ℕ) (s : List Frame) (stale : ℕ) → Scene g start area ph t v done rest s stale → Scene g start area rollingBack (ordered t) v done rest s stale
   order-scene ph t v done rest s stale C = record { placed = C .placed; labels = C .labels; seen = C .seen; is-config = ap (inPhase rollingBack) (C .is-config); light = C .light }
 
-  order-first : (ph : ℕ) (t : Trace) (v : ℕ) (done rest ahead : List ℕ) (s : List Frame) (stale : ℕ) → Scene g start area ph t v done rest s stale → finishing g s v ahead (t .history) ≡ allOf g start → t .rolling ≡ false → Holds g start area (ordered t)
+  order-first : (ph : ℕ) (t : Trace) (v : ℕ) (done rest ahead : List ℕ) (s : List Frame) (stale : ℕ) → Scene g start area ph t v done rest s stale → finishing (graphOf g) s v ahead (t .history) ≡ allOf g start → t .rolling ≡ false → Holds g start area (ordered t)
   order-first ph t v done rest ahead s stale C fut calm =
       let sh : Short (t .history) (allOf g start) = subst (Short (t .history)) fut (short g s v ahead (t .history)) in
       let k = C .light in
@@ -246,22 +246,21 @@ module _ (g : Image) (S : Sound g) (start : ℕ) (hs : Vertex (g .n) start) (are
 
   -- ---- the opening
   pub opened-held : (l : Line) → l .config ≡ openedAt g start area → l .events ≡ event label 0 start ∷ [] → l .steps ≡ 0 → l .rolling ≡ false → l .since ≡ 0 → Faultless (l .answers) → Held l
-  unfolding depthFirst
   opened-held l ec ee es er ez f =
-      let L : Labels (g .n) (start ∷ []) = label-ok (g .n) start [] hs (λ m. mem-nil m) (record { once = tt; all = λ x m. absurd (mem-nil m) }) in
+      let F = scene-first (graphOf g) start (profile-ready g S start hs) in
       record {
         history = [] ▸ event label 0 start;
         events = ee;
         holds =
             at-walking start [] (edgesOf g start) [] (at 0 (g .after) start)
             (record {
-              placed = record { vertex = hs; list = refl; above = refl; distinct = (λ m. mem-nil m, tt) };
-              labels = L;
-              seen = λ x m. m;
+              placed = F .placed;
+              labels = F .labels;
+              seen = F .seen;
               is-config = ec ∙ (λ i. record { n = g .n; m = g .m; start = start; v = start; e = S .first start hs i; f = 0; phase = walking; next = 2; circular = 0; after = sym (put-at 0 (g .after) start) i; tail = g .tail; marks = marks-first (g .n + g .m) area start (hs .0) (omega arith) i });
               light = omega arith;
             })
-            (sym (search-unroll (graphOf g) [] (graph-closed g S) start [] (record { vertex = hs; fresh = λ m. mem-nil m; labels = record { once = tt; all = λ x m. absurd (mem-nil m) }; enough = omega arith })))
+            (F .future)
             er (omega arith);
         calm = λ e. ez;
         faultless = f;

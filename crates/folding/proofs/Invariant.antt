@@ -18,14 +18,14 @@ use Rattle.graphs.specs.Results.{marksLeft}
 use Rattle.graphs.specs.Image.{Image, edgesOf, to, graphOf}
 use Rattle.graphs.proofs.Labels.{Labels, label-ok}
 use Rattle.graphs.proofs.Sound.{head0, Sound, graph-closed}
-use Rattle.graphs.proofs.DepthGrowth.{Can, search-unroll}
+use Rattle.graphs.proofs.Places.{Frame, frame, path, Placed, deep, finishing, deep-unroll}
 use Rattle.graphs.proofs.Results.{marks-cleared}
 use Rattle.folding.specs.Machine.{Config, walking, restoring, finished, rollingBack, rolledBack, Stepped}
 use Rattle.folding.specs.Calls.{over}
 use Rattle.folding.specs.Lines.{addIf}
-use Rattle.folding.proofs.Bent.{Frame, frame, path, bentAfter, Placed, configAt, configEnd}
+use Rattle.folding.proofs.Bent.{bentAfter, configAt, configEnd}
 use Rattle.folding.proofs.Steps.{Goes, link-rest, down, ahead-edge, nontree-goes, tree-goes, relink-goes, retreat-goes, undo-tree-goes, finish-goes, undo-open-goes}
-use Rattle.folding.proofs.Future.{allOf, deep, finishing, advances, scans, Short}
+use Rattle.folding.proofs.Future.{allOf, advances, scans, Short}
 
 -- The steps to relink and retreat that a place still owes.
 abbrev pub framesWeight : List Frame → ℕ
@@ -50,7 +50,7 @@ tick t s = record { config = s .config; history = reverseAux (s .events) (t .his
 module _ (g : Image) (start : ℕ) (area : List ℕ) where
   -- At a place, in a phase.
   pub record Scene (ph : ℕ) (t : Trace) (v : ℕ) (done rest : List ℕ) (s : List Frame) (stale : ℕ) : Type 0 where
-    pub placed : Placed g start v done rest s
+    pub placed : Placed (graphOf g) start v done rest s
     pub labels : Labels (g .n) (labelled (t .history))
     pub seen : (x : ℕ) → Mem x (v ∷ path s) → Mem x (labelled (t .history))
     pub is-config : t .config ≡ configAt g start area ph v done rest s stale (t .history)
@@ -65,8 +65,8 @@ module _ (g : Image) (start : ℕ) (area : List ℕ) where
     pub is-config : t .config ≡ configEnd g start ph e marks (t .history)
 
   pub data Holds (t : Trace) : Type 0 where
-    at-walking : (v : ℕ) (done rest : List ℕ) (s : List Frame) (stale : ℕ) → Scene walking t v done rest s stale → finishing g s v rest (t .history) ≡ allOf g start → t .rolling ≡ false → t .steps + weight done s ≡ 2 * advances (t .history) + scans (t .history) → Holds t
-    at-restoring : (v : ℕ) (done rest : List ℕ) (s : List Frame) (stale : ℕ) → Scene restoring t v done rest s stale → finishing g s v [] (t .history) ≡ allOf g start → t .rolling ≡ false → t .steps + weight done s ≡ 2 * advances (t .history) + scans (t .history) → Holds t
+    at-walking : (v : ℕ) (done rest : List ℕ) (s : List Frame) (stale : ℕ) → Scene walking t v done rest s stale → finishing (graphOf g) s v rest (t .history) ≡ allOf g start → t .rolling ≡ false → t .steps + weight done s ≡ 2 * advances (t .history) + scans (t .history) → Holds t
+    at-restoring : (v : ℕ) (done rest : List ℕ) (s : List Frame) (stale : ℕ) → Scene restoring t v done rest s stale → finishing (graphOf g) s v [] (t .history) ≡ allOf g start → t .rolling ≡ false → t .steps + weight done s ≡ 2 * advances (t .history) + scans (t .history) → Holds t
     at-rolling : (v : ℕ) (done rest : List ℕ) (s : List Frame) (stale : ℕ) → Scene rollingBack t v done rest s stale → Short (t .history) (allOf g start) → t .rolling ≡ true → t .since + suc (weight done s) ≤ advances (allOf g start) + scans (allOf g start) → Holds t
     at-end : Closed finished (marksLeft (g .n + g .m) (t .history) area) t → t .history ≡ allOf g start → t .rolling ≡ false → t .steps ≡ 2 * advances (allOf g start) + scans (allOf g start) → Holds t
     at-undone : Closed rolledBack (cleared (g .n + g .m) area) t → IsSuffix (t .history) (allOf g start) → t .rolling ≡ true → t .since ≤ advances (allOf g start) + scans (allOf g start) → Holds t
@@ -90,7 +90,7 @@ module _ (g : Image) (start : ℕ) (area : List ℕ) where
 
     -- Restoring, or walking with nothing ahead.
     back-move : (ph : ℕ) (t : Trace) (v : ℕ) (done rest : List ℕ) (s : List Frame) (stale : ℕ) → (eqb ph walking && not (eqb (head0 rest) 0)) ≡ false → eqb ph rollingBack ≡ false
-        → Scene ph t v done rest s stale → finishing g s v [] (t .history) ≡ allOf g start → t .rolling ≡ false → t .steps + weight done s ≡ 2 * advances (t .history) + scans (t .history) → Moves t
+        → Scene ph t v done rest s stale → finishing (graphOf g) s v [] (t .history) ≡ allOf g start → t .rolling ≡ false → t .steps + weight done s ≡ 2 * advances (t .history) + scans (t .history) → Moves t
     unfolding walkEdges
     back-move ph t v (d ∷ ds) rest s stale bk ro C fut calm cnt = record {
       next = record { config = configAt g start area restoring v ds (d ∷ rest) s stale (t .history); events = [] };
@@ -120,7 +120,7 @@ module _ (g : Image) (start : ℕ) (area : List ℕ) where
 
     -- An edge r ahead, to a vertex labelled or not.
     front-move : (t : Trace) (v : ℕ) (done : List ℕ) (r : ℕ) (rs : List ℕ) (s : List Frame) (stale : ℕ) (b : Bool) → memb (to g r) (labelled (t .history)) ≡ b
-        → Scene walking t v done (r ∷ rs) s stale → finishing g s v rs (cross (recorder []) (graphOf g) (deep g) v r b (t .history)) ≡ allOf g start → t .rolling ≡ false → t .steps + weight done s ≡ 2 * advances (t .history) + scans (t .history) → Moves t
+        → Scene walking t v done (r ∷ rs) s stale → finishing (graphOf g) s v rs (cross (recorder []) (graphOf g) (deep (graphOf g)) v r b (t .history)) ≡ allOf g start → t .rolling ≡ false → t .steps + weight done s ≡ 2 * advances (t .history) + scans (t .history) → Moves t
     front-move t v done r rs s stale true k C fut calm cnt = record {
       next = record { config = configAt g start area walking v (r ∷ done) rs s stale (t .history ▸ event advance-nontree r v ▸ event retreat-nontree r v); events = event advance-nontree r v ∷ event retreat-nontree r v ∷ [] };
       goes = goes-from (C .is-config) (nontree-goes g S start area v done r rs s stale (t .history) (C .placed) k);
@@ -137,8 +137,7 @@ module _ (g : Image) (start : ℕ) (area : List ℕ) where
         let hx : Vertex (g .n) (to g r) = S .target r (ahead-edge g S start v done r rs s P) in
         let new : Mem (to g r) (labelled h) → ⊥ = memb-false (to g r) (labelled h) k in
         let L : Labels (g .n) (to g r ∷ labelled h) = label-ok (g .n) (to g r) (labelled h) hx new (C .labels) in
-        let Q : Placed g start (to g r) [] (edgesOf g (to g r)) (frame v done r rs ∷ s) = record { vertex = hx; list = refl; above = (refl, P .vertex, P .list, P .above); distinct = (λ m. new (C .seen (to g r) m), P .distinct) } in
-        let can : Can (graphOf g) [] (graph-closed g S) (g .n) (to g r) (h ▸ event advance-tree r v) = can-search (to g r) h hx new (C .labels) in
+        let Q : Placed (graphOf g) start (to g r) [] (edgesOf g (to g r)) (frame v done r rs ∷ s) = record { vertex = hx; list = refl; above = (refl, P .vertex, P .list, P .above); distinct = (λ m. new (C .seen (to g r) m), P .distinct) } in
         let l = C .light in
         record {
           next = record { config = configAt g start area walking (to g r) [] (edgesOf g (to g r)) (frame v done r rs ∷ s) (at 0 (bentAfter g (frame v done r rs ∷ s)) (to g r)) (h ▸ event advance-tree r v ▸ event label 0 (to g r)); events = event advance-tree r v ∷ event label 0 (to g r) ∷ [] };
@@ -146,12 +145,9 @@ module _ (g : Image) (start : ℕ) (area : List ℕ) where
           holds =
               at-walking (to g r) [] (edgesOf g (to g r)) (frame v done r rs ∷ s) (at 0 (bentAfter g (frame v done r rs ∷ s)) (to g r))
               (record { placed = Q; labels = L; seen = each-cons (λ x. Mem x (to g r ∷ labelled h)) (to g r) (v ∷ path s) (here refl) (λ x m. there (C .seen x m)); is-config = refl; light = omega arith })
-              (sym (ap (λ (i : History). finishing g s v rs (i ▸ event retreat-tree r v)) (search-unroll (graphOf g) [] (graph-closed g S) (to g r) (h ▸ event advance-tree r v) can)) ∙ fut)
+              (sym (ap (λ (i : History). finishing (graphOf g) s v rs (i ▸ event retreat-tree r v)) (deep-unroll (graphOf g) (graph-closed g S) (to g r) (h ▸ event advance-tree r v) hx new (C .labels))) ∙ fut)
               calm (omega arith);
         }
-      where
-        can-search : (x : ℕ) (h : History) → Vertex (g .n) x → (Mem x (labelled h) → ⊥) → Labels (g .n) (labelled h) → Can (graphOf g) [] (graph-closed g S) (g .n) x (h ▸ event advance-tree r v)
-        can-search x h hx new L = record { vertex = hx; fresh = λ m. new (subst (Mem x) (append-nil (labelled h)) m); labels = subst (Labels (g .n)) (sym (append-nil (labelled h))) L; enough = omega arith }
 
     roll-move : (t : Trace) (v : ℕ) (done rest : List ℕ) (s : List Frame) (stale : ℕ) → Scene rollingBack t v done rest s stale → Short (t .history) (allOf g start) → t .rolling ≡ true → t .since + suc (weight done s) ≤ advances (allOf g start) + scans (allOf g start) → Moves t
     roll-move t v (d ∷ ds) rest s stale C sh ro cnt = record {
@@ -176,7 +172,7 @@ module _ (g : Image) (start : ℕ) (area : List ℕ) where
           sh ro (rw ro (omega arith));
     }
 
-    walk-move : (t : Trace) (v : ℕ) (done rest : List ℕ) (s : List Frame) (stale : ℕ) → Scene walking t v done rest s stale → finishing g s v rest (t .history) ≡ allOf g start → t .rolling ≡ false → t .steps + weight done s ≡ 2 * advances (t .history) + scans (t .history) → Moves t
+    walk-move : (t : Trace) (v : ℕ) (done rest : List ℕ) (s : List Frame) (stale : ℕ) → Scene walking t v done rest s stale → finishing (graphOf g) s v rest (t .history) ≡ allOf g start → t .rolling ≡ false → t .steps + weight done s ≡ 2 * advances (t .history) + scans (t .history) → Moves t
     unfolding walkEdges
     walk-move t v done [] s stale C fut calm cnt = back-move walking t v done [] s stale refl refl C fut calm cnt
     walk-move t v done (r ∷ rs) s stale C fut calm cnt = front-move t v done r rs s stale (memb (to g r) (known [] (t .history))) (ap (memb (to g r)) (sym (append-nil (labelled (t .history))))) C fut calm cnt

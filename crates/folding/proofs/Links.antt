@@ -8,12 +8,15 @@ use native.Mathlib.Omega.{arith}
 use lib.ListN.{length}
 use Rattle.lists.specs.Members.{Mem, here, there, NoDup}
 use Rattle.lists.specs.Words.{at, put}
-use Rattle.lists.proofs.Members.{mem-rest, mem-done, Split, split}
+use Rattle.lists.proofs.Members.{Split, split}
 use Rattle.lists.proofs.Words.{length-put, put-comm, at-other}
 use Rattle.graphs.specs.Nodes.{Vertex, Edge}
-use Rattle.graphs.specs.Image.{Image, edgesOf}
+use Rattle.graphs.specs.Image.{Image, edgesOf, to, graphOf}
 use Rattle.graphs.proofs.Sound.{head0, Linked, Sound}
-use Rattle.folding.proofs.Bent.{Frame, frame, parent, path, top, bend, bentAfter, bentTail, Above, Placed}
+use Rattle.graphs.proofs.Owned.{image-owned}
+use Rattle.graphs.proofs.Places.{Frame, frame, parent, path, Above, Placed, of-done, of-rest}
+use Rattle.graphs.proofs.Tails.{tails-length, tails-kept}
+use Rattle.folding.proofs.Bent.{top, bend, bentAfter, bentTail}
 
 pub at-bend : (done : List ℕ) (par : ℕ) (l : List ℕ) (x : ℕ) → 0 < x → ((d : ℕ) → Mem d done → (0 < d) × (x ≢ d)) → at 0 (bend done par l) x ≡ at 0 l x
 at-bend [] par l x h q = refl
@@ -37,22 +40,14 @@ length-bentAfter g [] = refl
 length-bentAfter g (frame u du r ru ∷ s) = length-bend du (parent s) (put 0 (bentAfter g s) u r) ∙ length-put 0 (bentAfter g s) u r ∙ length-bentAfter g s
 
 pub length-bentTail : (g : Image) (s : List Frame) → length (bentTail g s) ≡ length (g .tail)
-length-bentTail g [] = refl
-length-bentTail g (frame u du r ru ∷ s) = length-put (g .n) (bentTail g s) r (top du (parent s)) ∙ length-bentTail g s
+length-bentTail g s = tails-length (λ du fs. top du (parent fs)) (g .n) (g .tail) s
 
 linked-rest : (after done rest : List ℕ) → Linked after (reverseAux done rest) → Linked after rest
 linked-rest after [] rest h = h
 linked-rest after (d ∷ ds) rest h = linked-rest after ds (d ∷ rest) h .1
 
 module _ (g : Image) (S : Sound g) (start : ℕ) where
-  -- the references of u, as passed and ahead
-  pub of-done : (u : ℕ) (du ru : List ℕ) → edgesOf g u ≡ reverseAux du ru → (d : ℕ) → Mem d du → Mem d (edgesOf g u)
-  of-done u du ru e d m = subst (λ (l : List ℕ). Mem d l) (sym e) (mem-done ru m)
-
-  pub of-rest : (u : ℕ) (du ru : List ℕ) → edgesOf g u ≡ reverseAux du ru → (d : ℕ) → Mem d ru → Mem d (edgesOf g u)
-  of-rest u du ru e d m = subst (λ (l : List ℕ). Mem d l) (sym e) (mem-rest du m)
-
-  pub clean : (s : List Frame) (v : ℕ) → Above g start s v → (x : ℕ) → 0 < x → (Mem (S .owner x) (path s) → ⊥) → at 0 (bentAfter g s) x ≡ at 0 (g .after) x
+  pub clean : (s : List Frame) (v : ℕ) → Above (graphOf g) start s v → (x : ℕ) → 0 < x → (Mem (S .owner x) (path s) → ⊥) → at 0 (bentAfter g s) x ≡ at 0 (g .after) x
   clean [] v a x h q = refl
   clean (frame u du r ru ∷ s) v a x h q =
       at-bend du (parent s) (put 0 (bentAfter g s) u r) x h off
@@ -61,36 +56,33 @@ module _ (g : Image) (S : Sound g) (start : ℕ) where
     where
       off : (d : ℕ) → Mem d du → (0 < d) × (x ≢ d)
       off d m =
-          let k : Mem d (edgesOf g u) = of-done u du (r ∷ ru) (a .2) d m in
+          let k : Mem d (edgesOf g u) = of-done (graphOf g) u du (r ∷ ru) (a .2) d m in
           let z : Edge (g .n) (g .m) d = S .edge u d (a .1) k in
           (omega arith, λ e. q (here (ap (S .owner) e ∙ S .own-edge u d (a .1) k)))
 
-  pub clean-tail : (s : List Frame) (v : ℕ) → Above g start s v → (x : ℕ) → g .n < x → (Mem (S .owner x) (path s) → ⊥) → at (g .n) (bentTail g s) x ≡ at (g .n) (g .tail) x
-  clean-tail [] v a x h q = refl
-  clean-tail (frame u du r ru ∷ s) v a x h q =
-      let k : Mem r (edgesOf g u) = of-rest u du (r ∷ ru) (a .2) r (here refl) in
-      at-other (g .n) (bentTail g s) r x (top du (parent s)) (S .edge u r (a .1) k .0) h (λ e. q (here (ap (S .owner) e ∙ S .own-edge u r (a .1) k)))
-      ∙ clean-tail s u (a .3) x h (λ m. q (there m))
+  -- a reference ahead of v still has its tail
+  pub ahead-tail : (v : ℕ) (done rest : List ℕ) (s : List Frame) → Placed (graphOf g) start v done rest s → (x : ℕ) → Mem x rest → at (g .n) (bentTail g s) x ≡ to g x
+  ahead-tail v done rest s P x m = tails-kept (image-owned g S) (λ du fs. top du (parent fs)) (g .tail) start s v v x (P .above) (P .vertex) (of-rest (graphOf g) v done rest (P .list) x m) (P .distinct .0)
 
   -- the edges passed differ from those ahead and from the element
   pub off-done : (v : ℕ) (done rest : List ℕ) → Vertex (g .n) v → edgesOf g v ≡ reverseAux done rest → (x : ℕ) → Mem x rest → (d : ℕ) → Mem d done → (0 < d) × (x ≢ d)
   off-done v done rest hv e x mx d md =
-      let z : Edge (g .n) (g .m) d = S .edge v d hv (of-done v done rest e d md) in
+      let z : Edge (g .n) (g .m) d = S .edge v d hv (of-done (graphOf g) v done rest e d md) in
       let sp : Split done rest = split done rest (subst NoDup e (S .once v hv)) in
       (omega arith, λ q. sp .apart x mx (subst (λ (y : ℕ). Mem y done) (sym q) md))
 
   pub off-vertex : (v : ℕ) (done rest : List ℕ) → Vertex (g .n) v → edgesOf g v ≡ reverseAux done rest → (d : ℕ) → Mem d done → (0 < d) × (v ≢ d)
   off-vertex v done rest hv e d md =
-      let z : Edge (g .n) (g .m) d = S .edge v d hv (of-done v done rest e d md) in
+      let z : Edge (g .n) (g .m) d = S .edge v d hv (of-done (graphOf g) v done rest e d md) in
       (omega arith, λ q. (let w : v ≡ d = q in omega arith))
 
   pub next-word : (v : ℕ) (done : List ℕ) (r : ℕ) (rs : List ℕ) → Vertex (g .n) v → edgesOf g v ≡ reverseAux done (r ∷ rs) → at 0 (g .after) r ≡ head0 rs
   next-word v done r rs hv e = linked-rest (g .after) done (r ∷ rs) (subst (Linked (g .after)) e (S .linked v hv)) .0
 
   -- a reference ahead of v still has its word
-  pub ahead : (v : ℕ) (done rest : List ℕ) (s : List Frame) (stale : ℕ) → Placed g start v done rest s → (x : ℕ) → Mem x rest → at 0 (bend done (parent s) (put 0 (bentAfter g s) v stale)) x ≡ at 0 (g .after) x
+  pub ahead : (v : ℕ) (done rest : List ℕ) (s : List Frame) (stale : ℕ) → Placed (graphOf g) start v done rest s → (x : ℕ) → Mem x rest → at 0 (bend done (parent s) (put 0 (bentAfter g s) v stale)) x ≡ at 0 (g .after) x
   ahead v done rest s stale P x mx =
-      let k : Mem x (edgesOf g v) = of-rest v done rest (P .list) x mx in
+      let k : Mem x (edgesOf g v) = of-rest (graphOf g) v done rest (P .list) x mx in
       let z : Edge (g .n) (g .m) x = S .edge v x (P .vertex) k in
       let pos : 0 < x = omega arith in
       let hv : Vertex (g .n) v = P .vertex in
@@ -99,5 +91,5 @@ module _ (g : Image) (S : Sound g) (start : ℕ) where
       ∙ clean s v (P .above) x pos (λ m. P .distinct .0 (subst (λ (y : ℕ). Mem y (path s)) (S .own-edge v x (P .vertex) k) m))
 
   -- below v nothing of v is bent
-  pub below : (v : ℕ) (s : List Frame) → Vertex (g .n) v → Above g start s v → NoDup (v ∷ path s) → at 0 (bentAfter g s) v ≡ head0 (edgesOf g v)
+  pub below : (v : ℕ) (s : List Frame) → Vertex (g .n) v → Above (graphOf g) start s v → NoDup (v ∷ path s) → at 0 (bentAfter g s) v ≡ head0 (edgesOf g v)
   below v s hv a nd = clean s v a v (hv .0) (λ m. nd .0 (subst (λ (y : ℕ). Mem y (path s)) (S .own-self v hv) m)) ∙ S .first v hv

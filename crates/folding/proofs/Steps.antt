@@ -1,6 +1,6 @@
 -- Each step of the folded search, made at a place, fits and leads to the configuration of the next place.
 -- A step touches only the outermost stores of the bent links, so its new links are those of the next place by the laws of stores.
-use mathlib.Core.Path.{_≡_, refl, sym, ap, _∙_, subst}
+use mathlib.Core.Path.{_≡_, refl, sym, ap, _∙_}
 use mathlib.Core.Bool.{Bool, true, false, _&&_, not}
 use mathlib.Core.List.{List, [], _∷_, reverseAux}
 use Prim.Native.Nat.{ℕ, suc, _+_, _≤_}
@@ -8,22 +8,23 @@ use native.Mathlib.Omega.{arith}
 use lib.ListN.{length}
 use lib.Dec.{eqb, ltb}
 use borrow.Author.Tests.{eq-eqb, lt-ltb, le-ltb, le-leb}
-use Rattle.lists.specs.Members.{Mem, here, memb}
+use Rattle.lists.specs.Members.{here, memb}
 use Rattle.lists.specs.Words.{at, put, cleared}
 use Rattle.lists.proofs.Tests.{and-true, zero-test}
 use Rattle.lists.proofs.Words.{length-put, put-put, put-at, at-put}
 use Rattle.graphs.specs.Nodes.{Vertex, Edge, isVertex, isEdge, isLink, isNode}
 use Rattle.graphs.specs.Events.{event, label, advance-tree, advance-nontree, retreat-nontree, retreat-tree, scan, History, _▸_, labelled}
 use Rattle.graphs.specs.Results.{marksLeft}
-use Rattle.graphs.specs.Image.{Image, edgesOf, to}
+use Rattle.graphs.specs.Image.{Image, edgesOf, to, graphOf}
 use Rattle.graphs.proofs.Nodes.{vertex-yes, edge-yes, link-of-edge}
 use Rattle.graphs.proofs.Labels.{Labels, labels-few}
 use Rattle.graphs.proofs.Sound.{head0, Sound}
+use Rattle.graphs.proofs.Places.{Frame, frame, parent, Above, Placed, of-done, of-rest}
 use Rattle.graphs.proofs.Results.{marks-label, marks-test}
 use Rattle.folding.specs.Machine.{Config, walking, finished, rollingBack, rolledBack, target, forward, fresh, Step, tree, nontree, relink, retreat, finish, undo-tree, undo-open, pickStep, stepOf, closed, upward, fits, Stepped, relinked, enact, canStep, step}
 use Rattle.folding.specs.Claims.{circularOf}
-use Rattle.folding.proofs.Bent.{Frame, frame, parent, path, top, bend, bentAfter, bentTail, Above, Placed, configAt, configEnd}
-use Rattle.folding.proofs.Links.{at-bend, put-bend, length-bend, length-bentAfter, length-bentTail, of-rest, of-done, clean-tail, off-vertex, next-word, ahead, below}
+use Rattle.folding.proofs.Bent.{top, bend, bentAfter, bentTail, configAt, configEnd}
+use Rattle.folding.proofs.Links.{at-bend, put-bend, length-bend, length-bentAfter, length-bentTail, ahead-tail, off-vertex, next-word, ahead, below}
 
 -- The step to come fits, and leads there.
 pub record Goes (w : Config) (s : Stepped) : Type 0 where
@@ -41,53 +42,48 @@ module _ (g : Image) (S : Sound g) (start : ℕ) where
   -- ---- the words taken into e and f are in kind
   pub link-rest : (u : ℕ) (du ru : List ℕ) → Vertex (g .n) u → edgesOf g u ≡ reverseAux du ru → isLink (g .n) (g .m) (head0 ru) ≡ true
   link-rest u du [] hu e = refl
-  link-rest u du (r ∷ ru) hu e = link-of-edge (g .n) (g .m) r (edge-yes (g .n) (g .m) r (S .edge u r hu (of-rest g S start u du (r ∷ ru) e r (here refl))))
+  link-rest u du (r ∷ ru) hu e = link-of-edge (g .n) (g .m) r (edge-yes (g .n) (g .m) r (S .edge u r hu (of-rest (graphOf g) u du (r ∷ ru) e r (here refl))))
 
-  parent-node : (s : List Frame) (v : ℕ) → Above g start s v → parent s ≤ g .n
+  parent-node : (s : List Frame) (v : ℕ) → Above (graphOf g) start s v → parent s ≤ g .n
   parent-node [] v a = omega arith
   parent-node (frame u du r ru ∷ s) v a = a .1 .1
 
-  pub node-top : (u : ℕ) (du ru : List ℕ) (s : List Frame) → Vertex (g .n) u → edgesOf g u ≡ reverseAux du ru → Above g start s u → isNode (g .n) (g .m) (top du (parent s)) ≡ true
+  pub node-top : (u : ℕ) (du ru : List ℕ) (s : List Frame) → Vertex (g .n) u → edgesOf g u ≡ reverseAux du ru → Above (graphOf g) start s u → isNode (g .n) (g .m) (top du (parent s)) ≡ true
   node-top u [] ru s hu e a = le-leb (parent s) (g .n + g .m) (omega (arith, parent-node s u a))
-  node-top u (d ∷ ds) ru s hu e a = le-leb d (g .n + g .m) (S .edge u d hu (of-done g S start u (d ∷ ds) ru e d (here refl)) .1)
+  node-top u (d ∷ ds) ru s hu e a = le-leb d (g .n + g .m) (S .edge u d hu (of-done (graphOf g) u (d ∷ ds) ru e d (here refl)) .1)
 
   -- ---- a place
   -- a(v), put back while v has no edge passed.
-  reopened : (v : ℕ) (rest : List ℕ) (s : List Frame) (stale : ℕ) → Placed g start v [] rest s → put 0 (put 0 (bentAfter g s) v stale) v (head0 rest) ≡ bentAfter g s
+  reopened : (v : ℕ) (rest : List ℕ) (s : List Frame) (stale : ℕ) → Placed (graphOf g) start v [] rest s → put 0 (put 0 (bentAfter g s) v stale) v (head0 rest) ≡ bentAfter g s
   reopened v rest s stale P =
       put-put 0 (bentAfter g s) v stale (head0 rest)
       ∙ ap (put 0 (bentAfter g s) v) (sym (below g S start v s (P .vertex) (P .above) (P .distinct) ∙ ap head0 (P .list)))
       ∙ put-at 0 (bentAfter g s) v
 
   -- The place below.
-  pub down : (v u : ℕ) (rest du : List ℕ) (r : ℕ) (ru : List ℕ) (s : List Frame) → Placed g start v [] rest (frame u du r ru ∷ s) → Placed g start u du (r ∷ ru) s
+  pub down : (v u : ℕ) (rest du : List ℕ) (r : ℕ) (ru : List ℕ) (s : List Frame) → Placed (graphOf g) start v [] rest (frame u du r ru ∷ s) → Placed (graphOf g) start u du (r ∷ ru) s
   down v u rest du r ru s P = record { vertex = P .above .1; list = P .above .2; above = P .above .3; distinct = P .distinct .1 }
 
-  pub ahead-edge : (v : ℕ) (done : List ℕ) (r : ℕ) (rs : List ℕ) (s : List Frame) → Placed g start v done (r ∷ rs) s → Edge (g .n) (g .m) r
-  ahead-edge v done r rs s P = S .edge v r (P .vertex) (of-rest g S start v done (r ∷ rs) (P .list) r (here refl))
-
-  ahead-tail : (v : ℕ) (done : List ℕ) (r : ℕ) (rs : List ℕ) (s : List Frame) → Placed g start v done (r ∷ rs) s → at (g .n) (bentTail g s) r ≡ to g r
-  ahead-tail v done r rs s P =
-      clean-tail g S start s v (P .above) r (ahead-edge v done r rs s P .0)
-      (λ m. P .distinct .0 (subst (λ (y : ℕ). Mem y (path s)) (S .own-edge v r (P .vertex) (of-rest g S start v done (r ∷ rs) (P .list) r (here refl))) m))
+  pub ahead-edge : (v : ℕ) (done : List ℕ) (r : ℕ) (rs : List ℕ) (s : List Frame) → Placed (graphOf g) start v done (r ∷ rs) s → Edge (g .n) (g .m) r
+  ahead-edge v done r rs s P = S .edge v r (P .vertex) (of-rest (graphOf g) v done (r ∷ rs) (P .list) r (here refl))
 
   module _ (area : List ℕ) where
     -- ---- forward
     -- "Marked" is asked of t(e) as the step reads it.
-    mark-of : (v : ℕ) (done : List ℕ) (r : ℕ) (rs : List ℕ) (s : List Frame) (stale : ℕ) (h : History) (b : Bool) → Placed g start v done (r ∷ rs) s → memb (to g r) (labelled h) ≡ b → eqb (at 0 (marksLeft (g .n + g .m) h area) (at (g .n) (bentTail g s) r)) 0 ≡ not b
+    mark-of : (v : ℕ) (done : List ℕ) (r : ℕ) (rs : List ℕ) (s : List Frame) (stale : ℕ) (h : History) (b : Bool) → Placed (graphOf g) start v done (r ∷ rs) s → memb (to g r) (labelled h) ≡ b → eqb (at 0 (marksLeft (g .n + g .m) h area) (at (g .n) (bentTail g s) r)) 0 ≡ not b
     mark-of v done r rs s stale h b P k =
         let hx : Vertex (g .n) (to g r) = S .target r (ahead-edge v done r rs s P) in
-        ap (λ (x : ℕ). eqb (at 0 (marksLeft (g .n + g .m) h area) x) 0) (ahead-tail v done r rs s P)
+        ap (λ (x : ℕ). eqb (at 0 (marksLeft (g .n + g .m) h area) x) 0) (ahead-tail g S start v done (r ∷ rs) s P r (here refl))
         ∙ marks-test (g .n + g .m) h area (to g r) (hx .0) (omega arith)
         ∙ ap not k
 
-    pub nontree-goes : (v : ℕ) (done : List ℕ) (r : ℕ) (rs : List ℕ) (s : List Frame) (stale : ℕ) (h : History) → Placed g start v done (r ∷ rs) s → memb (to g r) (labelled h) ≡ true
+    pub nontree-goes : (v : ℕ) (done : List ℕ) (r : ℕ) (rs : List ℕ) (s : List Frame) (stale : ℕ) (h : History) → Placed (graphOf g) start v done (r ∷ rs) s → memb (to g r) (labelled h) ≡ true
         → Goes (configAt g start area walking v done (r ∷ rs) s stale h) (record { config = configAt g start area walking v (r ∷ done) rs s stale (h ▸ event advance-nontree r v ▸ event retreat-nontree r v); events = event advance-nontree r v ∷ event retreat-nontree r v ∷ [] })
     unfolding fits enact
     nontree-goes v done r rs s stale h P k =
         let w = configAt g start area walking v done (r ∷ rs) s stale h in
         let ed : Edge (g .n) (g .m) r = ahead-edge v done r rs s P in
-        let tl : target w r ≡ to g r = ahead-tail v done r rs s P in
+        let tl : target w r ≡ to g r = ahead-tail g S start v done (r ∷ rs) s P r (here refl) in
         let word : at 0 (w .after) r ≡ head0 rs = ahead g S start v done (r ∷ rs) s stale P r (here refl) ∙ next-word g S start v done r rs (P .vertex) (P .list) in
         goes-by w nontree _
         (step-is w (ap not (zero-test r (omega arith))) (mark-of v done r rs s stale h true P k) refl refl refl)
@@ -99,13 +95,13 @@ module _ (g : Image) (S : Sound g) (start : ℕ) where
           events = event advance-nontree r v ∷ event retreat-nontree r v ∷ [];
         })
 
-    pub tree-goes : (v : ℕ) (done : List ℕ) (r : ℕ) (rs : List ℕ) (s : List Frame) (stale : ℕ) (h : History) → Placed g start v done (r ∷ rs) s → memb (to g r) (labelled h) ≡ false → Labels (g .n) (to g r ∷ labelled h) → Placed g start (to g r) [] (edgesOf g (to g r)) (frame v done r rs ∷ s)
+    pub tree-goes : (v : ℕ) (done : List ℕ) (r : ℕ) (rs : List ℕ) (s : List Frame) (stale : ℕ) (h : History) → Placed (graphOf g) start v done (r ∷ rs) s → memb (to g r) (labelled h) ≡ false → Labels (g .n) (to g r ∷ labelled h) → Placed (graphOf g) start (to g r) [] (edgesOf g (to g r)) (frame v done r rs ∷ s)
         → Goes (configAt g start area walking v done (r ∷ rs) s stale h) (record { config = configAt g start area walking (to g r) [] (edgesOf g (to g r)) (frame v done r rs ∷ s) (at 0 (bentAfter g (frame v done r rs ∷ s)) (to g r)) (h ▸ event advance-tree r v ▸ event label 0 (to g r)); events = event advance-tree r v ∷ event label 0 (to g r) ∷ [] })
     unfolding fits enact
     tree-goes v done r rs s stale h P k L Q =
         let w = configAt g start area walking v done (r ∷ rs) s stale h in
         let ed : Edge (g .n) (g .m) r = ahead-edge v done r rs s P in
-        let tl : target w r ≡ to g r = ahead-tail v done r rs s P in
+        let tl : target w r ≡ to g r = ahead-tail g S start v done (r ∷ rs) s P r (here refl) in
         let hv : Vertex (g .n) v = P .vertex in
         let hx : Vertex (g .n) (to g r) = Q .vertex in
         let shut : closed w ≡ bentAfter g (frame v done r rs ∷ s) =
@@ -131,13 +127,13 @@ module _ (g : Image) (S : Sound g) (start : ℕ) where
 
     -- ---- back
     -- f is an edge: in phase 2 or 4, or in phase 1 with nothing ahead.
-    pub relink-goes : (ph : ℕ) (b : Bool) (v d : ℕ) (ds rest : List ℕ) (s : List Frame) (stale : ℕ) (h : History) → (eqb ph walking && not (eqb (head0 rest) 0)) ≡ false → eqb ph rollingBack ≡ b → Placed g start v (d ∷ ds) rest s
+    pub relink-goes : (ph : ℕ) (b : Bool) (v d : ℕ) (ds rest : List ℕ) (s : List Frame) (stale : ℕ) (h : History) → (eqb ph walking && not (eqb (head0 rest) 0)) ≡ false → eqb ph rollingBack ≡ b → Placed (graphOf g) start v (d ∷ ds) rest s
         → Goes (configAt g start area ph v (d ∷ ds) rest s stale h) (record { config = configAt g start area (relinked b) v ds (d ∷ rest) s stale h; events = [] })
     unfolding fits enact
     relink-goes ph b v d ds rest s stale h back roll P =
         let w = configAt g start area ph v (d ∷ ds) rest s stale h in
         let under = bend ds (parent s) (put 0 (bentAfter g s) v stale) in
-        let Q : Placed g start v ds (d ∷ rest) s = record { vertex = P .vertex; list = P .list; above = P .above; distinct = P .distinct } in
+        let Q : Placed (graphOf g) start v ds (d ∷ rest) s = record { vertex = P .vertex; list = P .list; above = P .above; distinct = P .distinct } in
         let ed : Edge (g .n) (g .m) d = ahead-edge v ds d rest s Q in
         let long : length (bend ds (parent s) (put 0 (bentAfter g s) v stale)) ≡ length (g .after) =
         length-bend ds (parent s) (put 0 (bentAfter g s) v stale) ∙ length-put 0 (bentAfter g s) v stale ∙ length-bentAfter g s in
@@ -163,11 +159,11 @@ module _ (g : Image) (S : Sound g) (start : ℕ) where
       word : at 0 (closed w) (upward w) ≡ head0 ru
       tail-back : put (g .n) (bentTail g (frame u du r ru ∷ s)) (upward w) v ≡ bentTail g s
 
-    back-at : (ph v u : ℕ) (rest du : List ℕ) (r : ℕ) (ru : List ℕ) (s : List Frame) (stale : ℕ) (h : History) → Placed g start v [] rest (frame u du r ru ∷ s)
+    back-at : (ph v u : ℕ) (rest du : List ℕ) (r : ℕ) (ru : List ℕ) (s : List Frame) (stale : ℕ) (h : History) → Placed (graphOf g) start v [] rest (frame u du r ru ∷ s)
         → Back (configAt g start area ph v [] rest (frame u du r ru ∷ s) stale h) v u du r ru s
     back-at ph v u rest du r ru s stale h P =
         let w = configAt g start area ph v [] rest (frame u du r ru ∷ s) stale h in
-        let Q : Placed g start u du (r ∷ ru) s = down v u rest du r ru s P in
+        let Q : Placed (graphOf g) start u du (r ∷ ru) s = down v u rest du r ru s P in
         let ed : Edge (g .n) (g .m) r = ahead-edge u du r ru s Q in
         let hu : Vertex (g .n) u = Q .vertex in
         let shut : closed w ≡ bentAfter g (frame u du r ru ∷ s) = reopened v rest (frame u du r ru ∷ s) stale P in
@@ -183,17 +179,17 @@ module _ (g : Image) (S : Sound g) (start : ℕ) where
           tail-back =
               ap (λ (y : ℕ). put (g .n) (bentTail g (frame u du r ru ∷ s)) y v) up
               ∙ put-put (g .n) (bentTail g s) r (top du (parent s)) v
-              ∙ ap (put (g .n) (bentTail g s) r) (sym (ahead-tail u du r ru s Q ∙ P .above .0))
+              ∙ ap (put (g .n) (bentTail g s) r) (sym (ahead-tail g S start u du (r ∷ ru) s Q r (here refl) ∙ P .above .0))
               ∙ put-at (g .n) (bentTail g s) r;
         }
 
-    pub retreat-goes : (ph v u : ℕ) (rest du : List ℕ) (r : ℕ) (ru : List ℕ) (s : List Frame) (stale : ℕ) (h : History) → (eqb ph walking && not (eqb (head0 rest) 0)) ≡ false → eqb ph rollingBack ≡ false → Placed g start v [] rest (frame u du r ru ∷ s)
+    pub retreat-goes : (ph v u : ℕ) (rest du : List ℕ) (r : ℕ) (ru : List ℕ) (s : List Frame) (stale : ℕ) (h : History) → (eqb ph walking && not (eqb (head0 rest) 0)) ≡ false → eqb ph rollingBack ≡ false → Placed (graphOf g) start v [] rest (frame u du r ru ∷ s)
         → Goes (configAt g start area ph v [] rest (frame u du r ru ∷ s) stale h) (record { config = configAt g start area walking u (r ∷ du) ru s r (h ▸ event scan 0 v ▸ event retreat-tree r u); events = event scan 0 v ∷ event retreat-tree r u ∷ [] })
     unfolding fits enact
     retreat-goes ph v u rest du r ru s stale h bk roll P =
         let w = configAt g start area ph v [] rest (frame u du r ru ∷ s) stale h in
         let K : Back w v u du r ru s = back-at ph v u rest du r ru s stale h P in
-        let Q : Placed g start u du (r ∷ ru) s = down v u rest du r ru s P in
+        let Q : Placed (graphOf g) start u du (r ∷ ru) s = down v u rest du r ru s P in
         let hu : Vertex (g .n) u = Q .vertex in
         goes-by w retreat _
         (step-is w bk refl (le-ltb (g .n) u (hu .1)) (zero-test u (hu .0)) roll)
@@ -207,13 +203,13 @@ module _ (g : Image) (S : Sound g) (start : ℕ) where
           events = event scan 0 v ∷ event retreat-tree (K .up i) u ∷ [];
         })
 
-    pub undo-tree-goes : (v u : ℕ) (rest du : List ℕ) (r : ℕ) (ru : List ℕ) (s : List Frame) (stale : ℕ) (h : History) → Placed g start v [] rest (frame u du r ru ∷ s)
+    pub undo-tree-goes : (v u : ℕ) (rest du : List ℕ) (r : ℕ) (ru : List ℕ) (s : List Frame) (stale : ℕ) (h : History) → Placed (graphOf g) start v [] rest (frame u du r ru ∷ s)
         → Goes (configAt g start area rollingBack v [] rest (frame u du r ru ∷ s) stale h) (record { config = configAt g start area rollingBack u du (r ∷ ru) s r h; events = [] })
     unfolding fits enact
     undo-tree-goes v u rest du r ru s stale h P =
         let w = configAt g start area rollingBack v [] rest (frame u du r ru ∷ s) stale h in
         let K : Back w v u du r ru s = back-at rollingBack v u rest du r ru s stale h P in
-        let Q : Placed g start u du (r ∷ ru) s = down v u rest du r ru s P in
+        let Q : Placed (graphOf g) start u du (r ∷ ru) s = down v u rest du r ru s P in
         let hu : Vertex (g .n) u = Q .vertex in
         goes-by w undo-tree _
         (step-is w refl refl (le-ltb (g .n) u (hu .1)) (zero-test u (hu .0)) refl)
@@ -226,7 +222,7 @@ module _ (g : Image) (S : Sound g) (start : ℕ) where
         })
 
     -- f is null: the last close.
-    pub finish-goes : (ph v : ℕ) (rest : List ℕ) (stale : ℕ) (h : History) → (eqb ph walking && not (eqb (head0 rest) 0)) ≡ false → eqb ph rollingBack ≡ false → Placed g start v [] rest []
+    pub finish-goes : (ph v : ℕ) (rest : List ℕ) (stale : ℕ) (h : History) → (eqb ph walking && not (eqb (head0 rest) 0)) ≡ false → eqb ph rollingBack ≡ false → Placed (graphOf g) start v [] rest []
         → Goes (configAt g start area ph v [] rest [] stale h) (record { config = configEnd g start finished (head0 rest) (marksLeft (g .n + g .m) h area) (h ▸ event scan 0 v); events = event scan 0 v ∷ [] })
     unfolding fits enact
     finish-goes ph v rest stale h bk roll P =
@@ -239,7 +235,7 @@ module _ (g : Image) (S : Sound g) (start : ℕ) where
           events = event scan 0 v ∷ [];
         })
 
-    pub undo-open-goes : (v : ℕ) (rest : List ℕ) (stale : ℕ) (h : History) → Placed g start v [] rest []
+    pub undo-open-goes : (v : ℕ) (rest : List ℕ) (stale : ℕ) (h : History) → Placed (graphOf g) start v [] rest []
         → Goes (configAt g start area rollingBack v [] rest [] stale h) (record { config = configEnd g start rolledBack (head0 rest) (cleared (g .n) (marksLeft (g .n + g .m) h area)) h; events = [] })
     unfolding fits enact
     undo-open-goes v rest stale h P =

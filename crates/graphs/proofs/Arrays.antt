@@ -197,6 +197,8 @@ module _ (g : Image) (S : Sound g) (firsts tails numbers : List ℕ) where
   same-graph : SameGraph g a (numbersLeft g numbers)
   same-graph =
       record {
+        same-n = refl;
+        same-m = refl;
         taken = query-taken;
         lists = list-part;
         targets = λ p e. tail-at (g .n) p (e .0) (e .1) ∙ ap (to g) (sym (at-over (g .n) all numbers p (e .0) (omega (arith, lists-length g S))));

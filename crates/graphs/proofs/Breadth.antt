@@ -67,17 +67,17 @@ module _ (G : Graph) (before : List ℕ) where
 module _ (G : Graph) (before : List ℕ) (start : ℕ) where
   -- ---- the queue
   -- ls are labelled: us, which were scanned or are being scanned, and q, the queue. Of the edges out of us, rs are still to be traversed.
-  record Kept (us rs q ls : List ℕ) : Type 0 where
-    order : ls ≡ reverseAux q us
-    vertices : Labels (G .size) (ls ++ before)
-    starts : Mem start ls
-    reached : (x : ℕ) → Mem x ls → Leads G before start x
-    closes : (x : ℕ) → Mem x us → (r : ℕ) → Mem r (G .out x) → Mem r rs ⊎ Mem (G .to r) (ls ++ before)
-    targets : (r : ℕ) → Mem r rs → Vertex (G .size) (G .to r)
-    reaches : (r : ℕ) → Mem r rs → (Mem (G .to r) before → ⊥) → Leads G before start (G .to r)
+  pub record Kept (us rs q ls : List ℕ) : Type 0 where
+    pub order : ls ≡ reverseAux q us
+    pub vertices : Labels (G .size) (ls ++ before)
+    pub starts : Mem start ls
+    pub reached : (x : ℕ) → Mem x ls → Leads G before start x
+    pub closes : (x : ℕ) → Mem x us → (r : ℕ) → Mem r (G .out x) → Mem r rs ⊎ Mem (G .to r) (ls ++ before)
+    pub targets : (r : ℕ) → Mem r rs → Vertex (G .size) (G .to r)
+    pub reaches : (r : ℕ) → Mem r rs → (Mem (G .to r) before → ⊥) → Leads G before start (G .to r)
 
   -- The next edge leads to a labelled vertex.
-  pass : {us q ls : List ℕ} (r : ℕ) (rs : List ℕ) → Mem (G .to r) (ls ++ before) → Kept us (r ∷ rs) q ls → Kept us rs q ls
+  pub pass : {us q ls : List ℕ} (r : ℕ) (rs : List ℕ) → Mem (G .to r) (ls ++ before) → Kept us (r ∷ rs) q ls → Kept us rs q ls
   pass {ls = ls} r rs k K = record {
     order = K .order;
     vertices = K .vertices;
@@ -93,7 +93,7 @@ module _ (G : Graph) (before : List ℕ) (start : ℕ) where
       go e (inr m) = inr m
 
   -- The next edge leads to an unlabelled vertex, which is labelled and joins the queue.
-  join : {us q ls : List ℕ} (r : ℕ) (rs : List ℕ) → (Mem (G .to r) (ls ++ before) → ⊥) → Kept us (r ∷ rs) q ls → Kept us (r ∷ rs) (q ++ (G .to r ∷ [])) (G .to r ∷ ls)
+  pub join : {us q ls : List ℕ} (r : ℕ) (rs : List ℕ) → (Mem (G .to r) (ls ++ before) → ⊥) → Kept us (r ∷ rs) q ls → Kept us (r ∷ rs) (q ++ (G .to r ∷ [])) (G .to r ∷ ls)
   join {us} {q} {ls} r rs new K = record {
     order = ap (λ (l : List ℕ). G .to r ∷ l) (K .order) ∙ sym (reverseAux-append q (G .to r ∷ []) us);
     vertices = label-ok (G .size) (G .to r) (ls ++ before) (K .targets r (here refl)) new (K .vertices);
@@ -117,7 +117,7 @@ module _ (G : Graph) (before : List ℕ) (start : ℕ) where
       go (inr n) = n
 
   -- The first of the queue begins to be scanned.
-  begin : {us q ls : List ℕ} (v : ℕ) → Closed G → Kept us [] (v ∷ q) ls → Kept (v ∷ us) (G .out v) q ls
+  pub begin : {us q ls : List ℕ} (v : ℕ) → Closed G → Kept us [] (v ∷ q) ls → Kept (v ∷ us) (G .out v) q ls
   begin {us} {q} {ls} v C K = record {
     order = K .order;
     vertices = K .vertices;
@@ -142,16 +142,16 @@ module _ (G : Graph) (before : List ℕ) (start : ℕ) where
       apart : (x : ℕ) → Mem x q → Mem x us → ⊥
       apart x m k = split q us (subst NoDup (K .order) (nodup-left ls before (K .vertices .once))) .apart x k m
 
-  few : {us q ls : List ℕ} → Kept us [] q ls → length us + length q ≤ G .size
+  pub few : {us q ls : List ℕ} → Kept us [] q ls → length us + length q ≤ G .size
   few {us} {q} {ls} K = omega (arith, ap length (K .order), length-reverseAux q us, length-append ls before, labels-few (G .size) (ls ++ before) (K .vertices))
 
   -- ---- the executable search satisfies the relation
   -- While v is being scanned.
-  abbrev Within : ℕ → List ℕ → Front History → Type 0
+  abbrev pub Within : ℕ → List ℕ → Front History → Type 0
   Within v rs f = Kept (v ∷ scanned (f .state)) rs (f .queue) (labelled (f .state))
 
   -- Between two scans.
-  abbrev Between : List ℕ → History → Type 0
+  abbrev pub Between : List ℕ → History → Type 0
   Between q h = Kept (scanned h) [] q (labelled h)
 
   record Traversed (v : ℕ) (rs : List ℕ) (h : History) (f : Front History) : Type 0 where
@@ -203,7 +203,7 @@ module _ (G : Graph) (before : List ℕ) (start : ℕ) where
 
 -- ---- the claims
 module _ (G : Graph) (before : List ℕ) (start : ℕ) (R : Ready G before start) where
-  first : Between G before start (start ∷ []) ([] ▸ event label 0 start)
+  pub first : Between G before start (start ∷ []) ([] ▸ event label 0 start)
   first = record {
     order = refl;
     vertices = label-ok (G .size) start before (R .start-vertex) (R .start-fresh) (record { once = R .once; all = R .vertices });

@@ -7,13 +7,16 @@ use native.Mathlib.Omega.{arith}
 use lib.ListN.{length, length-reverse}
 use Rattle.lists.proofs.Members.{mem-nil}
 use Rattle.graphs.specs.Nodes.{Vertex}
-use Rattle.graphs.specs.Graph.{Reached, met}
+use Rattle.graphs.specs.Graph.{Graph, Reached, met}
 use Rattle.graphs.specs.Events.{Event, event, History, words, labelled}
 use Rattle.graphs.specs.Search.{depthFirst, breadthFirst}
 use Rattle.graphs.specs.Image.{Image, graphOf}
-use Rattle.graphs.specs.Claims.{Ready, RoomClaim}
+use Rattle.graphs.specs.ArrayForm.{ArrayForm, arrayGraph}
+use Rattle.graphs.specs.Claims.{Ready, RoomClaim, ArrayRoomClaim}
 use Rattle.graphs.proofs.Labels.{Labels, labels-few, reached-labels}
-use Rattle.graphs.proofs.Sound.{Sound, profile-sound, graph-closed, met-most}
+use Rattle.graphs.proofs.Sound.{Sound, profile-sound}
+use Rattle.graphs.proofs.ArraySound.{ArraySound, array-sound}
+use Rattle.graphs.proofs.Owned.{Owned, met-most, image-owned, array-owned}
 use Rattle.graphs.proofs.Depth.{depth-first, depth-length}
 use Rattle.graphs.proofs.Breadth.{breadth-first, breadth-length}
 
@@ -21,21 +24,34 @@ pub words-length : (es : List Event) → length (words es) ≡ 3 * length es
 words-length [] = refl
 words-length (event k r u ∷ es) = let h = words-length es in omega arith
 
--- A search of a sound profile may begin, with nothing labelled before.
+-- A search of a graph in which each edge stands once may begin, with nothing labelled before.
+owned-ready : {G : Graph} {m : ℕ} → Owned G m → (start : ℕ) → Vertex (G .size) start → Ready G [] start
+owned-ready O start hs = record { closed = O .target; vertices = λ x m. absurd (mem-nil m); once = tt; start-vertex = hs; start-fresh = λ m. mem-nil m }
+
 pub profile-ready : (g : Image) → Sound g → (start : ℕ) → Vertex (g .n) start → Ready (graphOf g) [] start
-profile-ready g S start hs = record { closed = graph-closed g S; vertices = λ x m. absurd (mem-nil m); once = tt; start-vertex = hs; start-fresh = λ m. mem-nil m }
+profile-ready g S = owned-ready (image-owned g S)
+
+pub array-ready : (a : ArrayForm) → ArraySound a → (start : ℕ) → Vertex (a .n) start → Ready (arrayGraph a) [] start
+array-ready a S = owned-ready (array-owned a S)
 
 -- Labelled vertices and edges met are at most n and m.
-fits-room : (g : Image) → Sound g → (start : ℕ) → Vertex (g .n) start → (h : History) → Reached (graphOf g) [] start (labelled h) → length h ≤ 2 * (met (graphOf g) (labelled h) + length (labelled h)) → length (words (reverse h)) ≤ 6 * (g .n + g .m)
-fits-room g S start hs h R k =
-    let L : Labels (g .n) (labelled h) = reached-labels (graphOf g) [] start (profile-ready g S start hs) (labelled h) R in
-    omega (arith, words-length (reverse h), length-reverse h, labels-few (g .n) (labelled h) L, met-most g S (labelled h) L)
+module _ {G : Graph} {m : ℕ} (O : Owned G m) (start : ℕ) (hs : Vertex (G .size) start) where
+  fits-room : (h : History) → Reached G [] start (labelled h) → length h ≤ 2 * (met G (labelled h) + length (labelled h)) → length (words (reverse h)) ≤ 6 * (G .size + m)
+  fits-room h R k =
+      let L : Labels (G .size) (labelled h) = reached-labels G [] start (owned-ready O start hs) (labelled h) R in
+      omega (arith, words-length (reverse h), length-reverse h, labels-few (G .size) (labelled h) L, met-most O (labelled h) L)
+
+  pub depth-room : length (words (reverse (depthFirst G [] start))) ≤ 6 * (G .size + m)
+  depth-room = let R = owned-ready O start hs in fits-room (depthFirst G [] start) (depth-first G [] start R .complete .labels) (omega (arith, depth-length G [] start R))
+
+  pub breadth-room : length (words (reverse (breadthFirst G [] start))) ≤ 6 * (G .size + m)
+  breadth-room = let R = owned-ready O start hs in fits-room (breadthFirst G [] start) (breadth-first G [] start R .complete .labels) (omega (arith, breadth-length G [] start R))
 
 pub room : RoomClaim
 room g start areas h =
     let P = profile-sound g start areas h in
-    let R = profile-ready g (P .sound) start (P .start-vertex) in
-    let G = graphOf g in (
-      fits-room g (P .sound) start (P .start-vertex) (depthFirst (graphOf g) [] start) (depth-first (graphOf g) [] start R .complete .labels) (omega (arith, depth-length (graphOf g) [] start R)),
-      fits-room g (P .sound) start (P .start-vertex) (breadthFirst (graphOf g) [] start) (breadth-first (graphOf g) [] start R .complete .labels) (omega (arith, breadth-length (graphOf g) [] start R)),
-    )
+    let O = image-owned g (P .sound) in
+    (depth-room O start (P .start-vertex), breadth-room O start (P .start-vertex))
+
+pub array-room : ArrayRoomClaim
+array-room a start areas h = let P = array-sound a start areas h in depth-room (array-owned a (P .sound)) start (P .start-vertex)

@@ -6,21 +6,20 @@ use mathlib.Core.Bool.{Bool, true, false, cond}
 use mathlib.Core.List.{List, [], _∷_, _++_}
 use Prim.Native.Nat.{ℕ, zero, suc, _+_, _-_, _≤_, _<_}
 use native.Mathlib.Omega.{arith}
-use lib.ListN.{length, getD, length-append}
+use lib.ListN.{length, getD}
 use lib.Dec.{eqb, ltb, leb}
 use borrow.Author.Tests.{ltb-false, le-leb, lt-leb, not-false}
-use Rattle.lists.specs.Members.{Mem, here, there, NoDup, memb}
+use Rattle.lists.specs.Members.{Mem, NoDup, memb}
 use Rattle.lists.specs.Counts.{countIn}
 use Rattle.lists.specs.Words.{at}
 use Rattle.lists.proofs.Tests.{neither, Compared, equal, other, compare}
-use Rattle.lists.proofs.Members.{mem-nil, each-cons, mem-append, memb-true, memb-false, append-nodup, pigeonhole}
+use Rattle.lists.proofs.Members.{mem-nil, each-cons, mem-append, memb-true, memb-false, pigeonhole}
 use Rattle.lists.proofs.Counts.{count-append, count-mem, mem-count, count-once, all-at, all-counted}
 use Rattle.graphs.specs.Nodes.{Vertex, Edge, isVertex, isLink}
-use Rattle.graphs.specs.Graph.{Closed, met}
+use Rattle.graphs.specs.Graph.{Closed}
 use Rattle.graphs.specs.Image.{Image, chain, lookedFor, edgesOf, to, graphOf, listsTo}
 use Rattle.graphs.specs.Refusals.{Refusal, refuse, firstOf, Lent, lent, short, verticesOut, edgesOut, vertexOut, afterOut, tailOut, listOut, sizeRefusals, imageAreas, imageRefusals, imageNumber, searchNumber}
 use Rattle.graphs.proofs.Nodes.{vertex-is, link-not-null}
-use Rattle.graphs.proofs.Labels.{Labels}
 use Rattle.graphs.proofs.Refusals.{AllFalse, all-false, long}
 
 abbrev pub head0 : List ℕ → ℕ
@@ -50,7 +49,7 @@ pub record Sound (g : Image) : Type 0 where
 
 -- ---- chains
 -- The k-th tail word is that of reference n + k.
-same-place : (n r : ℕ) (tail : List ℕ) → n < r → at 0 tail (r - n) ≡ at n tail r
+pub same-place : (n r : ℕ) (tail : List ℕ) → n < r → at 0 tail (r - n) ≡ at n tail r
 unfolding at
 same-place n r tail h = let e : r - n - suc zero ≡ r - suc n = omega arith in ap (λ (i : ℕ). getD tail i 0) e
 
@@ -223,36 +222,6 @@ profile-sound g start areas h =
     let z = all-false (refuse 4 (vertexOut (g .n) start) ∷ []) (imageRefusals g) (omega arith) (sizes g areas own h .1) in
     record { sound = sized-sound g areas own h (z .1); start-vertex = vertex-is (g .n) start (not-false _ (z .0 .0)); areas-long = tail-long g areas own h .1 }
 
--- ---- the graph of a sound image
-module _ (g : Image) (S : Sound g) where
-  pub graph-closed : Closed (graphOf g)
-  graph-closed u r hu m = S .target r (S .edge u r hu m)
-
-  abbrev joined : List ℕ → List ℕ
-  joined [] = []
-  joined (u ∷ us) = edgesOf g u ++ joined us
-
-  length-joined : (us : List ℕ) → length (joined us) ≡ met (graphOf g) us
-  length-joined [] = refl
-  length-joined (u ∷ us) = length-append (edgesOf g u) (joined us) ∙ ap (λ (k : ℕ). length (edgesOf g u) + k) (length-joined us)
-
-  joined-of : (us : List ℕ) → ((x : ℕ) → Mem x us → Vertex (g .n) x) → (r : ℕ) → Mem r (joined us) → Edge (g .n) (g .m) r × Mem (S .owner r) us
-  joined-of [] a r m = absurd (mem-nil m)
-  joined-of (u ∷ us) a r m = go (λ k. joined-of us (λ x q. a x (there q)) r k) (mem-append (edgesOf g u) (joined us) m)
-    where
-      hu : Vertex (g .n) u
-      hu = a u (here refl)
-
-      go : (Mem r (joined us) → Edge (g .n) (g .m) r × Mem (S .owner r) us) → Mem r (edgesOf g u) ⊎ Mem r (joined us) → Edge (g .n) (g .m) r × Mem (S .owner r) (u ∷ us)
-      go ih (inl k) = (S .edge u r hu k, here (S .own-edge u r hu k))
-      go ih (inr k) = let q = ih k in (q .0, there (q .1))
-
-  joined-once : (us : List ℕ) → NoDup us → ((x : ℕ) → Mem x us → Vertex (g .n) x) → NoDup (joined us)
-  joined-once [] h a = tt
-  joined-once (u ∷ us) h a =
-      append-nodup (edgesOf g u) (joined us) (S .once u (a u (here refl))) (joined-once us (h .1) (λ x q. a x (there q)))
-      (λ r m k. h .0 (subst (λ (y : ℕ). Mem y us) (S .own-edge u r (a u (here refl)) m) (joined-of us (λ x q. a x (there q)) r k .1)))
-
-  -- The references on the lists of any vertices, none twice, are at most m.
-  pub met-most : (us : List ℕ) → Labels (g .n) us → met (graphOf g) us ≤ g .m
-  met-most us L = subst (λ (k : ℕ). k ≤ g .m) (length-joined us) (pigeonhole (g .n) (g .m) (joined us) (joined-once us (L .once) (L .all)) (λ r m. joined-of us (L .all) r m .0))
+-- The graph of a sound image.
+pub graph-closed : (g : Image) → Sound g → Closed (graphOf g)
+graph-closed g S u r hu m = S .target r (S .edge u r hu m)

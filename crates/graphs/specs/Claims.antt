@@ -10,10 +10,11 @@ use Rattle.lists.specs.Counts.{countIn, sumOf}
 use Rattle.lists.specs.Words.{at}
 use Rattle.graphs.specs.Nodes.{Vertex, Edge, isVertex}
 use Rattle.graphs.specs.Graph.{Graph, Closed, Reached, met}
-use Rattle.graphs.specs.Events.{History, _▸_, event, label, advance-tree, advance-nontree, retreat-tree, retreat-nontree, traverse, labelled, scanned, traversed, count, tally, words}
+use Rattle.graphs.specs.Events.{History, _▸_, event, label, advance-tree, advance-nontree, retreat-tree, retreat-nontree, traverse, labelled, scanned, traversed, count, tally, words, renamed}
 use Rattle.graphs.specs.Depth.{DepthFirst}
 use Rattle.graphs.specs.Breadth.{BreadthFirst}
 use Rattle.graphs.specs.Search.{recorder, search, depthFirst, drain, breadthFirst}
+use Rattle.graphs.specs.Results.{marksLeft, incrementLeft}
 use Rattle.graphs.specs.Image.{Image, edgesOf, to, graphOf}
 use Rattle.graphs.specs.ArrayForm.{ArrayForm, arrayGraph, arrayLeft, numbersLeft}
 use Rattle.graphs.specs.Refusals.{Lent, short, imageAreas, sound, imageNumber, searchNumber, arrayNumber}
@@ -71,6 +72,11 @@ abbrev pub RoomClaim : Type 0
 RoomClaim = (g : Image) (start : ℕ) (areas : List Lent) → searchNumber g start areas ≡ 0
     → (length (words (reverse (depthFirst (graphOf g) [] start))) ≤ 6 * (g .n + g .m)) × (length (words (reverse (breadthFirst (graphOf g) [] start))) ≤ 6 * (g .n + g .m))
 
+-- So do those of a depth-first search of an array form.
+abbrev pub ArrayRoomClaim : Type 0
+ArrayRoomClaim = (a : ArrayForm) (start : ℕ) (areas : List Lent) → arrayNumber a start areas ≡ 0
+    → length (words (reverse (depthFirst (arrayGraph a) [] start))) ≤ 6 * (a .n + a .m)
+
 -- The seven counts add up to the number of events.
 abbrev pub TallyClaim : Type 0
 TallyClaim = (h : History) → sumOf (λ k. k) (tally h) ≡ length h
@@ -78,6 +84,8 @@ TallyClaim = (h : History) → sumOf (λ k. k) (tally h) ≡ length h
 -- The array form is the same graph as the image, up to the list of edge numbers: position p, named n + p, is the edge that stands at p
 -- in that list. Every query of it, and every search, is taken.
 pub record SameGraph (g : Image) (a : ArrayForm) (numbers : List ℕ) : Type 0 where
+  pub same-n : a .n ≡ g .n
+  pub same-m : a .m ≡ g .m
   pub taken : (x : ℕ) → Vertex (g .n) x → arrayNumber a x [] ≡ 0
   pub lists : (u : ℕ) → Vertex (g .n) u → map (λ p. at (g .n) numbers p) (arrayGraph a .out u) ≡ edgesOf g u
   pub targets : (p : ℕ) → Edge (g .n) (g .m) p → arrayGraph a .to p ≡ to g (at (g .n) numbers p)
@@ -85,3 +93,15 @@ pub record SameGraph (g : Image) (a : ArrayForm) (numbers : List ℕ) : Type 0 w
 -- So is what a conversion leaves in any areas.
 abbrev pub ArrayClaim : Type 0
 ArrayClaim = (g : Image) (areas : List Lent) (firsts tails numbers : List ℕ) → imageNumber g areas ≡ 0 → SameGraph g (arrayLeft g firsts tails) (numbersLeft g numbers)
+
+-- The two searches are the same: the list of edge numbers turns the events of the array form's into those of the image's; labels, tally
+-- and increments are equal as they stand.
+pub record SameSearch (g : Image) (a : ArrayForm) (numbers : List ℕ) (start : ℕ) : Type 0 where
+  pub events : renamed (at (g .n) numbers) (depthFirst (arrayGraph a) [] start) ≡ depthFirst (graphOf g) [] start
+  pub marks : (k : ℕ) (area : List ℕ) → marksLeft k (depthFirst (arrayGraph a) [] start) area ≡ marksLeft k (depthFirst (graphOf g) [] start) area
+  pub tallies : tally (depthFirst (arrayGraph a) [] start) ≡ tally (depthFirst (graphOf g) [] start)
+  pub increments : (area : List ℕ) → incrementLeft (arrayGraph a) (depthFirst (arrayGraph a) [] start) area ≡ incrementLeft (graphOf g) (depthFirst (graphOf g) [] start) area
+
+-- So they are wherever the two forms are the same graph.
+abbrev pub RenamedClaim : Type 0
+RenamedClaim = (g : Image) (areas : List Lent) (a : ArrayForm) (numbers : List ℕ) (start : ℕ) → imageNumber g areas ≡ 0 → SameGraph g a numbers → Vertex (g .n) start → SameSearch g a numbers start

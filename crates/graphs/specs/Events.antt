@@ -1,5 +1,5 @@
 -- Events (document 01, "Events").
-use mathlib.Core.Bool.{Bool, _||_}
+use mathlib.Core.Bool.{Bool, cond, _||_}
 use mathlib.Core.List.{List, [], _∷_, _++_}
 use Prim.Native.Nat.{ℕ}
 use lib.Dec.{eqb}
@@ -76,3 +76,12 @@ count j (event k r u ∷ h) = bump (same j k) (count j h)
 -- The tally: seven counts.
 abbrev pub tally : History → List ℕ
 tally h = count label h ∷ count advance-tree h ∷ count advance-nontree h ∷ count retreat-nontree h ∷ count retreat-tree h ∷ count scan h ∷ count traverse h ∷ []
+
+-- The new number of reference r; null stays null.
+abbrev pub rename : (ℕ → ℕ) → ℕ → ℕ
+rename f r = cond (eqb r 0) 0 (f r)
+
+-- The events, each with the new number of its reference.
+abbrev pub renamed : (ℕ → ℕ) → History → History
+renamed f [] = []
+renamed f (event k r u ∷ h) = renamed f h ▸ event k (rename f r) u
