@@ -24,12 +24,12 @@ use Rattle.graphs.proofs.Follow.{Keeps, follow-walk}
 use Rattle.graphs.proofs.Depth.{depth-relates, depth-reached}
 
 -- P holds of every tree advance.
-abbrev AllTrees : (ℕ → ℕ → Type 0) → History → Type 0
+abbrev pub AllTrees : (ℕ → ℕ → Type 0) → History → Type 0
 AllTrees P [] = Unit {0}
 AllTrees P (event k r u ∷ h) = (same k advance-tree ≡ true → P r u) × AllTrees P h
 
 -- Where no tree advance passes the test, there is no last one that does.
-no-tree : (f : ℕ → ℕ → Bool) (h : History) → AllTrees (λ r u. f r u ≡ false) h → lastTree f h ≡ (0, 0)
+pub no-tree : (f : ℕ → ℕ → Bool) (h : History) → AllTrees (λ r u. f r u ≡ false) h → lastTree f h ≡ (0, 0)
 no-tree f [] a = refl
 no-tree f (event k r u ∷ h) a = go (same k advance-tree) (a .0) (no-tree f h (a .1))
   where
@@ -37,7 +37,7 @@ no-tree f (event k r u ∷ h) a = go (same k advance-tree) (a .0) (no-tree f h (
     go true q e = rw (q refl) e
     go false q e = e
 
-all-trees : {P Q : ℕ → ℕ → Type 0} → ((r u : ℕ) → P r u → Q r u) → (h : History) → AllTrees P h → AllTrees Q h
+pub all-trees : {P Q : ℕ → ℕ → Type 0} → ((r u : ℕ) → P r u → Q r u) → (h : History) → AllTrees P h → AllTrees Q h
 all-trees f [] a = tt
 all-trees f (event k r u ∷ h) a = (λ e. f r u (a .0 e), all-trees f h (a .1))
 

@@ -1,0 +1,52 @@
+-- The claims of specs/Claims, by citing what graphs/ has proved of searches.
+use mathlib.Core.Path.{_≡_, refl, sym, ap, _∙_}
+use mathlib.Core.Bool.{true, false}
+use mathlib.Core.List.{List, [], _∷_, _++_, reverse}
+use Prim.Native.Nat.{ℕ, _+_, _*_, _≤_}
+use native.Mathlib.Omega.{arith}
+use lib.ListN.{length}
+use Rattle.graphs.specs.Events.{History, words}
+use Rattle.graphs.specs.Image.{Image, graphOf}
+use Rattle.graphs.specs.ArrayForm.{ArrayForm, arrayGraph, arrayLeft, numbersLeft}
+use Rattle.graphs.specs.Refusals.{Lent}
+use Rattle.graphs.proofs.Refusals.{taken-sound, checked-sound}
+use Rattle.graphs.proofs.Results.{tally-sums}
+use Rattle.graphs.proofs.Room.{words-length, profile-ready, array-ready}
+use Rattle.graphs.proofs.Depth.{depth-first}
+use Rattle.graphs.proofs.Breadth.{breadth-first}
+use Rattle.graphs.proofs.Arrays.{array-same}
+use Rattle.graphs.proofs.Renamed.{converted-search}
+use Rattle.walkers.specs.Promises.{writtenAreas, walkNumber, arrayWalkNumber, depthWalk, arrayWalk, breadthWalk}
+use Rattle.walkers.specs.Claims.{TakenClaim, Fits, AsDefined, WalkClaim, ArrayWalkClaim, ConvertedClaim}
+use Rattle.walkers.specs.Writing.{Roomy}
+use Rattle.walkers.proofs.Writing.{begins, words-many}
+use Rattle.walkers.proofs.Numbers.{array-walk-same}
+use Rattle.walkers.proofs.ArrayBegins.{array-begins}
+
+pub taken : TakenClaim
+taken g start marks events own = taken-sound g start (writtenAreas (g .n + g .m) marks events ++ own)
+
+-- Room for all events is room for their words.
+fits : {k : ℕ} {h : History} {marks events : List ℕ} → Roomy k h marks events → Fits h events
+fits {h = h} R = record { room = omega (arith, words-many h, R .room); number = tally-sums h }
+
+pub walks-as-defined : WalkClaim
+walks-as-defined g start marks events own e =
+    let B = begins g start marks events own e in
+    let R = profile-ready g (B .sound) start (B .start-vertex) in
+    record { depth = depth-first (graphOf g) [] start R; breadth = breadth-first (graphOf g) [] start R; depth-fits = fits (B .depth-room); breadth-fits = fits (B .breadth-room) }
+
+pub array-walk-as-defined : ArrayWalkClaim
+array-walk-as-defined a start marks increments events e =
+    let B = array-begins a start marks increments events e in
+    (depth-first (arrayGraph a) [] start (array-ready a (B .sound) start (B .start-vertex)), fits (B .roomy))
+
+pub converted : ConvertedClaim
+converted g start marks events increments own firsts tails numbers e long =
+    let areas : List Lent = writtenAreas (g .n + g .m) marks events ++ own in
+    let B = begins g start marks events own e in
+    let sound-image = checked-sound g start areas .0 e .0 in
+    let a : ArrayForm = arrayLeft g firsts tails in (
+      sym (array-walk-same a start marks increments events (B .long-marks) (B .long-events) long) ∙ array-same g areas firsts tails numbers sound-image .taken start (B .start-vertex),
+      converted-search g areas firsts tails numbers start sound-image (B .start-vertex),
+    )

@@ -1,0 +1,178 @@
+-- What a walk has written, kept event by event; and what a walk taken may rely on.
+-- The areas are functions of the events so far, so an event more is a law of those functions.
+use mathlib.Core.Path.{_≡_, refl, sym, ap, _∙_, subst}
+use mathlib.Core.Logic.{_≢_}
+use mathlib.Core.Bool.{Bool, true, false, not}
+use mathlib.Core.List.{List, [], _∷_, _++_, reverse, reverseAux, reverseAux-eq, append-assoc}
+use Prim.Native.Nat.{ℕ, zero, suc, _+_, _-_, _*_, _≤_, _<_}
+use native.Mathlib.Omega.{arith}
+use lib.Dec.{eqb}
+use lib.ListN.{length, getD, set, drop, replicate, length-reverse}
+use Rattle.lists.specs.Members.{memb, consIf}
+use Rattle.lists.specs.Counts.{bump, rank}
+use Rattle.lists.specs.Words.{at, put, overlay, pasted, cleared, valuesFrom, filled}
+use Rattle.lists.proofs.Counts.{bump-grow}
+use Rattle.lists.proofs.Words.{length-cleared, cleared-past, cleared-filled, length-overlay, pasted-front, pasted-pasted}
+use Rattle.graphs.specs.Nodes.{Vertex}
+use Rattle.graphs.specs.Graph.{Graph}
+use Rattle.graphs.specs.Events.{Kind, Event, event, label, advance-tree, advance-nontree, retreat-tree, retreat-nontree, scan, traverse, code, same, words, History, _▸_, labelled, named, count, tally}
+use Rattle.graphs.specs.Results.{marksLeft, eventsLeft}
+use Rattle.graphs.specs.Image.{Image, graphOf}
+use Rattle.graphs.specs.Refusals.{Lent, lent, short}
+use Rattle.graphs.proofs.Refusals.{long}
+use Rattle.graphs.proofs.Results.{marks-label, marks-first, marks-test, marks-length, named-length, tally-sums}
+use Rattle.graphs.proofs.Room.{words-length, room}
+use Rattle.graphs.proofs.Sound.{Sound, profile-sound}
+use Rattle.walkers.specs.Promises.{writtenAreas, walkNumber, depthWalk, breadthWalk, tallied}
+use Rattle.walkers.specs.Writing.{total, counted, Few, CanEmit, CanLabel, Held, Roomy}
+
+-- ---- one event more
+words-append : (es fs : List Event) → words (es ++ fs) ≡ words es ++ words fs
+words-append [] fs = refl
+words-append (event k r u ∷ es) fs = ap (λ (l : List ℕ). code k ∷ r ∷ u ∷ l) (words-append es fs)
+
+-- Its words stand behind those of the events before.
+words-next : (h : History) (j : Kind) (r u : ℕ) → words (reverse (h ▸ event j r u)) ≡ words (reverse h) ++ (code j ∷ r ∷ u ∷ [])
+words-next h j r u = ap words (reverseAux-eq h (event j r u ∷ [])) ∙ words-append (reverse h) (event j r u ∷ [])
+
+pub words-many : (h : History) → length (words (reverse h)) ≡ 3 * length h
+words-many h = omega (arith, words-length (reverse h), length-reverse h)
+
+events-next : (h : History) (area : List ℕ) (j : Kind) (r u : ℕ) → 3 * length h ≤ length area → pasted (3 * length h) (code j ∷ r ∷ u ∷ []) (eventsLeft h area) ≡ eventsLeft (h ▸ event j r u) area
+events-next h area j r u p =
+    let ws : List ℕ = words (reverse h) in
+    let vs : List ℕ = code j ∷ r ∷ u ∷ [] in
+    let m : 3 * length h ≡ length ws = sym (words-many h) in
+    let q′ : 0 + length ws ≤ length area = omega arith in
+    let m′ : 3 * length h ≡ 0 + length ws = omega arith in
+    ap (λ (k : ℕ). pasted k vs (overlay ws area)) m′
+    ∙ ap (pasted (0 + length ws) vs) (sym (pasted-front ws area))
+    ∙ pasted-pasted 0 area (omega arith) ws vs q′
+    ∙ pasted-front (ws ++ vs) area
+    ∙ ap (λ (l : List ℕ). overlay l area) (sym (words-next h j r u))
+
+-- It is counted.
+tally-next : (h : History) (j : Kind) (r u : ℕ) → set (tally h) (code j - 1) (suc (getD (tally h) (code j - 1) 0)) ≡ tally (h ▸ event j r u)
+tally-next h label r u = refl
+tally-next h advance-tree r u = refl
+tally-next h advance-nontree r u = refl
+tally-next h retreat-nontree r u = refl
+tally-next h retreat-tree r u = refl
+tally-next h scan r u = refl
+tally-next h traverse r u = refl
+
+code-low : (j : Kind) → (1 ≤ code j) × (code j ≤ 7)
+code-low label = (omega arith, omega arith)
+code-low advance-tree = (omega arith, omega arith)
+code-low advance-nontree = (omega arith, omega arith)
+code-low retreat-nontree = (omega arith, omega arith)
+code-low retreat-tree = (omega arith, omega arith)
+code-low scan = (omega arith, omega arith)
+code-low traverse = (omega arith, omega arith)
+
+-- ---- what is held
+module _ {k : ℕ} {h : History} {marks₀ events₀ marks events t : List ℕ} (H : Held k h marks₀ events₀ marks events t) where
+  -- As many events are tallied as there are.
+  pub held-total : total t ≡ length h
+  held-total = ap total (H .counts) ∙ tally-sums h
+
+  -- The first count is the number of vertices labelled.
+  pub held-labels : getD t 0 0 ≡ length (labelled h)
+  held-labels = ap (λ (l : List ℕ). getD l 0 0) (H .counts) ∙ sym (named-length label h)
+
+  -- A mark of 0 is an unlabelled node.
+  pub held-test : (x : ℕ) → 0 < x → x ≤ k → eqb (at 0 marks x) 0 ≡ not (memb x (labelled h))
+  held-test x a b = ap (λ (l : List ℕ). eqb (at 0 l x) 0) (H .marked) ∙ marks-test k h marks₀ x a b
+
+  -- With room for one event more.
+  module _ {all : History} (R : Roomy k all marks₀ events₀) where
+    -- The areas keep their lengths.
+    pub held-lengths : length h ≤ length all → (length marks ≡ length marks₀) × (length events ≡ length events₀)
+    held-lengths l = (
+      ap length (H .marked) ∙ marks-length k h marks₀ (R .long-marks),
+      ap length (H .written) ∙ length-overlay (words (reverse h)) events₀ (omega (arith, words-many h, R .room)),
+    )
+
+    pub can-emit : suc (length h) ≤ length all → (j : Kind) → CanEmit (code j) t (length events)
+    can-emit l j =
+        let e = held-lengths (omega arith) in
+        let w = held-total in
+        record { low = code-low j .0; high = code-low j .1; few = record { seven = ap length (H .counts); few = omega (arith, R .few) }; room = omega (arith, R .room, e .1) }
+
+    pub can-label : suc (length h) ≤ length all → (u : ℕ) → 0 < u → u ≤ k → CanLabel u t (length marks) (length events)
+    can-label l u a b = let e = held-lengths (omega arith) in record { low = a; high = omega (arith, R .long-marks, e .0); emits = can-emit l label }
+
+    words-held : 3 * total t ≡ 3 * length h
+    words-held = ap (λ (c : ℕ). 3 * c) held-total
+
+    -- An event that labels nothing.
+    pub held-emit : suc (length h) ≤ length all → (j : Kind) (r u : ℕ) → same label j ≡ false → Held k (h ▸ event j r u) marks₀ events₀ marks (pasted (3 * total t) (code j ∷ r ∷ u ∷ []) events) (counted (code j) t)
+    held-emit l j r u q = record {
+      marked = H .marked ∙ ap (λ (b : Bool). filled (λ x. rank x (consIf b u (labelled h))) k marks₀) (sym q);
+      written = (λ i. pasted (words-held i) (code j ∷ r ∷ u ∷ []) (H .written i)) ∙ events-next h events₀ j r u (omega (arith, R .room));
+      counts = ap (counted (code j)) (H .counts) ∙ tally-next h j r u;
+    }
+
+    -- A label.
+    pub held-label : suc (length h) ≤ length all → (u : ℕ) → 0 < u → u ≤ k → Held k (h ▸ event label 0 u) marks₀ events₀ (put 0 marks u (suc (getD t 0 0))) (pasted (3 * total t) (1 ∷ 0 ∷ u ∷ []) events) (counted 1 t)
+    held-label l u a b = record {
+      marked = (λ i. put 0 (H .marked i) u (suc (held-labels i))) ∙ marks-label k h marks₀ u a b;
+      written = (λ i. pasted (words-held i) (1 ∷ 0 ∷ u ∷ []) (H .written i)) ∙ events-next h events₀ label 0 u (omega (arith, R .room));
+      counts = ap (counted 1) (H .counts) ∙ tally-next h label 0 u;
+    }
+
+-- Nothing emitted, in marks cleared.
+pub held-none : (k : ℕ) (marks₀ events : List ℕ) → Held k [] marks₀ events (cleared k marks₀) events (0 ∷ 0 ∷ 0 ∷ 0 ∷ 0 ∷ 0 ∷ 0 ∷ [])
+held-none k marks₀ events = record { marked = cleared-filled k marks₀; written = refl; counts = refl }
+
+-- The start labelled.
+pub held-begin : (k : ℕ) (marks₀ events₀ : List ℕ) (start : ℕ) → 0 < start → start ≤ k → Held k ([] ▸ event label 0 start) marks₀ events₀ (put 0 (cleared k marks₀) start 1) (pasted 0 (1 ∷ 0 ∷ start ∷ []) events₀) (1 ∷ 0 ∷ 0 ∷ 0 ∷ 0 ∷ 0 ∷ 0 ∷ [])
+held-begin k marks₀ events₀ start a b = record { marked = marks-first k marks₀ start a b; written = pasted-front (1 ∷ 0 ∷ start ∷ []) events₀; counts = refl }
+
+-- ---- areas cleared first
+pub drop-cleared : (k : ℕ) (area : List ℕ) → drop k (cleared k area) ≡ drop k area
+drop-cleared k area = let e : k + 0 ≡ k = omega arith in subst (λ (j : ℕ). drop j (cleared k area) ≡ drop j area) e (cleared-past k 0 area)
+
+-- What fills an area does not show whether it was cleared before.
+pub filled-cleared : (f : ℕ → ℕ) (k : ℕ) (area : List ℕ) → filled f k (cleared k area) ≡ filled f k area
+filled-cleared f k area = ap (λ (l : List ℕ). valuesFrom f 0 k ++ l) (drop-cleared k area)
+
+pub cleared-twice : (k : ℕ) (area : List ℕ) → cleared k area ≡ cleared k (cleared k area)
+cleared-twice k area = ap (λ (l : List ℕ). replicate k 0 ++ l) (sym (drop-cleared k area))
+
+-- ---- a walk taken
+-- The profile is sound, and there is room for the events of either search; the walk's own areas are as long as stated.
+pub record Begins (g : Image) (start : ℕ) (marks events : List ℕ) (own : List Lent) : Type 0 where
+  pub sound : Sound g
+  pub start-vertex : Vertex (g .n) start
+  pub long-marks : g .n + g .m ≤ length marks
+  pub long-events : 6 * (g .n + g .m) ≤ length events
+  pub depth-room : Roomy (g .n + g .m) (depthWalk g start) marks events
+  pub breadth-room : Roomy (g .n + g .m) (breadthWalk g start) marks events
+  pub own-long : short own ≡ false
+
+pub begins : (g : Image) (start : ℕ) (marks events : List ℕ) (own : List Lent) → walkNumber g start marks events own ≡ 0 → Begins g start marks events own
+begins g start marks events own e =
+    let nodes : ℕ = g .n + g .m in
+    let areas : List Lent = writtenAreas nodes marks events ++ own in
+    let P = profile-sound g start areas e in
+    let S = P .sound in
+    let a = long nodes marks (lent (6 * nodes) events ∷ own) (P .areas-long) in
+    let b = long (6 * nodes) events own (a .1) in
+    let r = room g start areas e in
+    let few-n = S .few-vertices in
+    let few-m = S .few-edges in
+    record {
+      sound = S;
+      start-vertex = P .start-vertex;
+      long-marks = a .0;
+      long-events = b .0;
+      depth-room = record { long-marks = a .0; room = omega (arith, r .0, words-many (depthWalk g start), b .0); few = omega (arith, r .0, words-many (depthWalk g start)) };
+      breadth-room = record { long-marks = a .0; room = omega (arith, r .1, words-many (breadthWalk g start), b .0); few = omega (arith, r .1, words-many (breadthWalk g start)) };
+      own-long = b .1;
+    }
+
+-- ---- a walk refused
+pub zeros-tallied : (k : ℕ) (h : History) → k ≢ 0 → (0 ∷ 0 ∷ 0 ∷ 0 ∷ 0 ∷ 0 ∷ 0 ∷ []) ≡ tallied k h
+zeros-tallied zero h ne = absurd (ne refl)
+zeros-tallied (suc k) h ne = refl
