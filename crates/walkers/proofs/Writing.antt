@@ -129,6 +129,28 @@ held-none k marks₀ events = record { marked = cleared-filled k marks₀; writt
 pub held-begin : (k : ℕ) (marks₀ events₀ : List ℕ) (start : ℕ) → 0 < start → start ≤ k → Held k ([] ▸ event label 0 start) marks₀ events₀ (put 0 (cleared k marks₀) start 1) (pasted 0 (1 ∷ 0 ∷ start ∷ []) events₀) (1 ∷ 0 ∷ 0 ∷ 0 ∷ 0 ∷ 0 ∷ 0 ∷ [])
 held-begin k marks₀ events₀ start a b = record { marked = marks-first k marks₀ start a b; written = pasted-front (1 ∷ 0 ∷ start ∷ []) events₀; counts = refl }
 
+-- ---- what the functions that write ensure
+-- An event written and counted; u labelled besides; all marks cleared and the start labelled.
+abbrev pub Emits : ℕ → ℕ → ℕ → (events t events′ t′ : List ℕ) → Type 0
+Emits k r u events t events′ t′ = (t′ ≡ counted k t) × (events′ ≡ pasted (3 * total t) (k ∷ r ∷ u ∷ []) events)
+
+abbrev pub Puts : ℕ → (marks events t marks′ events′ t′ : List ℕ) → Type 0
+Puts u marks events t marks′ events′ t′ = (t′ ≡ counted 1 t) × ((marks′ ≡ put 0 marks u (suc (getD t 0 0))) × (events′ ≡ pasted (3 * total t) (1 ∷ 0 ∷ u ∷ []) events))
+
+abbrev pub Starts : ℕ → ℕ → (marks events marks′ events′ t′ : List ℕ) → Type 0
+Starts nodes start marks events marks′ events′ t′ = (t′ ≡ 1 ∷ 0 ∷ 0 ∷ 0 ∷ 0 ∷ 0 ∷ 0 ∷ []) × ((marks′ ≡ put 0 (cleared nodes marks) start 1) × (events′ ≡ pasted 0 (1 ∷ 0 ∷ start ∷ []) events))
+
+-- What is held after such a call.
+module _ {k : ℕ} {h all : History} {marks₀ events₀ marks events t events′ t′ : List ℕ} (H : Held k h marks₀ events₀ marks events t) (R : Roomy k all marks₀ events₀) (l : suc (length h) ≤ length all) where
+  pub emitted : (j : Kind) (r u : ℕ) → same label j ≡ false → Emits (code j) r u events t events′ t′ → Held k (h ▸ event j r u) marks₀ events₀ marks events′ t′
+  emitted j r u q e = let E = held-emit H R l j r u q in record { marked = E .marked; written = e .1 ∙ E .written; counts = e .0 ∙ E .counts }
+
+  pub labelling : {marks′ : List ℕ} (u : ℕ) → 0 < u → u ≤ k → Puts u marks events t marks′ events′ t′ → Held k (h ▸ event label 0 u) marks₀ events₀ marks′ events′ t′
+  labelling u p q e = let E = held-label H R l u p q in record { marked = e .1 .0 ∙ E .marked; written = e .1 .1 ∙ E .written; counts = e .0 ∙ E .counts }
+
+pub beginning : {k : ℕ} {marks₀ events₀ marks events t : List ℕ} (start : ℕ) → 0 < start → start ≤ k → Starts k start marks₀ events₀ marks events t → Held k ([] ▸ event label 0 start) marks₀ events₀ marks events t
+beginning {k} {marks₀} {events₀} start a b w = let H = held-begin k marks₀ events₀ start a b in record { marked = w .1 .0 ∙ H .marked; written = w .1 .1 ∙ H .written; counts = w .0 ∙ H .counts }
+
 -- ---- areas cleared first
 pub drop-cleared : (k : ℕ) (area : List ℕ) → drop k (cleared k area) ≡ drop k area
 drop-cleared k area = let e : k + 0 ≡ k = omega arith in subst (λ (j : ℕ). drop j (cleared k area) ≡ drop j area) e (cleared-past k 0 area)

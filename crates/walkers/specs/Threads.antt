@@ -4,10 +4,11 @@ use mathlib.Core.List.{List, [], _∷_}
 use Prim.Native.Nat.{ℕ, suc, _+_, _≤_, _<_}
 use lib.ListN.{length}
 use Rattle.lists.specs.Words.{at, put}
-use Rattle.graphs.specs.Nodes.{Vertex}
-use Rattle.graphs.specs.Events.{History, scanned}
+use Rattle.lists.specs.Members.{Mem, NoDup}
+use Rattle.graphs.specs.Nodes.{Vertex, Edge}
+use Rattle.graphs.specs.Events.{History}
 use Rattle.graphs.specs.Image.{Image, chain, edgesOf, graphOf}
-use Rattle.graphs.proofs.Sound.{Sound}
+use Rattle.graphs.proofs.Sound.{Linked, Sound}
 use Rattle.graphs.proofs.Queues.{Waiting}
 use Rattle.images.specs.Checking.{image}
 use Rattle.walkers.specs.declared.folded.Scanned.{Scanned}
@@ -37,15 +38,21 @@ threaded g (x ∷ y ∷ q) = put 0 (threaded g (y ∷ q)) (lastNode g x) y
 abbrev pub rear : ℕ → List ℕ → ℕ
 rear v q = lastOf v q
 
--- The list of x ends at null, and its nodes are nodes.
+-- The list of x in these words: its edges, one leading to the next, the last to null.
 pub record Ends (n m x : ℕ) (after : List ℕ) : Type 0 where
   pub few-vertices : n ≤ 1000
   pub few-edges : m ≤ 4000
   pub long : n + m ≤ length after
   pub vertex : Vertex n x
   pub list : List ℕ
-  pub is : chain (suc m) after (at 0 after x) ≡ list
+  pub linked : Linked after (x ∷ list)
+  pub edges : (r : ℕ) → Mem r list → Edge n m r
   pub short : length list ≤ m
+
+-- Vertices, none twice.
+pub record Queued (n : ℕ) (w : List ℕ) : Type 0 where
+  pub once : NoDup w
+  pub all : (x : ℕ) → Mem x w → Vertex n x
 
 -- Between two scans: v waits first, and f is the last node of the last that waits; the areas are those that the events so far leave.
 pub record FoldedAt (g : Image) (start v f : ℕ) (marks₀ events₀ after marks events t : List ℕ) : Type 0 where
@@ -69,12 +76,14 @@ pub record SomeFoldedAt (n m start v f : ℕ) (after tail marks events t : List 
 pub record FoldedScanned (g : Image) (start v : ℕ) (marks₀ events₀ after marks events t : List ℕ) (s : Scanned) : Type 0 where
   pub h : History
   pub q : List ℕ
+  pub queued : Queued (g .n) (v ∷ q)
   pub waiting : Waiting (graphOf g) start h q
   pub held : Held (g .n + g .m) h marks₀ events₀ marks events (s .tally)
   pub links : after ≡ threaded g (v ∷ q)
   pub end : s .e ≡ lastNode g v
   pub last : s .f ≡ lastNode g (rear v q)
   pub more : total t < total (s .tally)
+  pub within : length h ≤ length (breadthWalk g start)
 
 -- The search can begin.
 pub record CanSearch (g : Image) (start : ℕ) (marks events : List ℕ) : Type 0 where
