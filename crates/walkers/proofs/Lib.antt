@@ -7,6 +7,7 @@ pub mod Moves
 -- The walks.
 pub mod Recursion
 pub mod Parents
+pub mod Increments
 pub mod Scans
 pub mod Queueing
 pub mod Threads

@@ -18,6 +18,7 @@ use Rattle.graphs.specs.Graph.{Graph}
 use Rattle.graphs.specs.Events.{Kind, event, label, advance-tree, advance-nontree, retreat-tree, retreat-nontree, scan, code, same, History, _▸_, labelled}
 use Rattle.graphs.specs.Image.{Image, edgesOf, to, graphOf}
 use Rattle.graphs.specs.Results.{lastTree, entry, parentWord, parentLeft}
+use Rattle.graphs.specs.Claims.{Ready}
 use Rattle.graphs.specs.Refusals.{lent, short}
 use Rattle.graphs.proofs.Refusals.{long}
 use Rattle.graphs.proofs.Sound.{head0, Linked, Sound, graph-closed}
@@ -30,7 +31,9 @@ use Rattle.walkers.specs.declared.place.Place.{Place}
 use Rattle.walkers.specs.Promises.{walkNumber, depthWalk}
 use Rattle.walkers.specs.Writing.{total, counted, CanEmit, CanLabel, CanBegin, Held, Roomy}
 use Rattle.walkers.specs.Parents.{Entered, ParentAt, SomeParentAt, CanSearch, Ended}
-use Rattle.walkers.proofs.Writing.{begins, held-total, held-test, held-lengths, held-emit, held-label, held-begin, can-emit, can-label}
+use Rattle.walkers.specs.Moves.{Underway}
+use Rattle.walkers.proofs.Writing.{Emits, Puts, Starts, held-test, begins}
+use Rattle.walkers.proofs.Moves as moves
 
 -- ---- the tree edge into a vertex
 -- What holds of every tree edge, and of none, holds of the last that passes a test.
@@ -70,9 +73,6 @@ module _ (G : Graph) (h : History) (r v x : ℕ) (is : G .to r ≡ x) (new : Mem
 
   -- Every tree edge leaves a labelled vertex.
   module _ (low : 0 < x) (from : Mem v (labelled h)) (trees : AllTrees (λ e u. Mem u (labelled h)) h) where
-    trees-tree : AllTrees (λ e u. Mem u (labelled treed)) treed
-    trees-tree = (λ e. here refl, (λ e. there from, all-trees (λ e u m. there m) h trees))
-
     -- x is not v, nor the parent of any vertex.
     not-from : x ≡ v → ⊥
     not-from e = new (subst (λ (y : ℕ). Mem y (labelled h)) (sym e) from)
@@ -141,14 +141,6 @@ framed : (f : ℕ) (s : List Frame) → f ≡ entering s → (f ≡ 0 → ⊥) �
 framed f [] h ne = absurd (ne h)
 framed f (frame u du r ru ∷ s) h ne = record { vertex = u; passed = du; ahead = ru; below = s; is = ap (λ (e : ℕ). frame u du e ru ∷ s) (sym h) }
 
--- ---- events as written
-module _ {k : ℕ} {h : History} {marks₀ events₀ marks events t : List ℕ} (H : Held k h marks₀ events₀ marks events t) {all : History} (R : Roomy k all marks₀ events₀) (l : suc (length h) ≤ length all) where
-  emitted : (j : Kind) (r u : ℕ) → same label j ≡ false → {ev a : List ℕ} → (a ≡ counted (code j) t) × (ev ≡ pasted (3 * total t) (code j ∷ r ∷ u ∷ []) events) → Held k (h ▸ event j r u) marks₀ events₀ marks ev a
-  emitted j r u q e = let K = held-emit H R l j r u q in record { marked = K .marked; written = e .1 ∙ K .written; counts = e .0 ∙ K .counts }
-
-  labels-it : (u : ℕ) → 0 < u → u ≤ k → {mk ev a : List ℕ} → (a ≡ counted 1 t) × ((mk ≡ put 0 marks u (suc (getD t 0 0))) × (ev ≡ pasted (3 * total t) (1 ∷ 0 ∷ u ∷ []) events)) → Held k (h ▸ event label 0 u) marks₀ events₀ mk ev a
-  labels-it u a b e = let K = held-label H R l u a b in record { marked = e .1 .0 ∙ K .marked; written = e .1 .1 ∙ K .written; counts = e .0 ∙ K .counts }
-
 -- ---- at a place
 -- The vertex that an edge leads to, as the code reads it.
 abbrev pub target : Image → ℕ → ℕ
@@ -170,29 +162,22 @@ pub record Ahead (g : Image) (e : ℕ) : Type 0 where
   pub leads : Vertex (g .n) (target g e)
 
 module _ {g : Image} {start : ℕ} {marks₀ parents₀ events₀ marks parents events : List ℕ} {p : Place} (A : ParentAt g start marks₀ parents₀ events₀ marks parents events p) where
-  -- The events so far are some of all.
-  room-so-far : length (A .h) ≤ length (depthWalk g start)
-  room-so-far =
-      let G : Graph = graphOf g in
-      let j : History = walk G (p .v) (A .rest) (A .h) ▸ event scan 0 (p .v) in
-      omega (arith, suffix-length (IsSuffix·trans {l₁ = A .h} {l₂ = j} {l₃ = unwind G (A .s) j} (suffix-then (event scan 0 (p .v)) (edges-add G (p .v) (A .rest) (A .h))) (unwind-adds G (A .s) j)), ap length (A .scene .future))
-
   -- The areas keep their lengths.
   place-lengths : (length marks ≡ length marks₀) × ((length parents ≡ length parents₀) × (length events ≡ length events₀))
   place-lengths =
-      let e = held-lengths (A .held) (A .roomy) room-so-far in
+      let e = moves.move-lengths (A .underway) in
       (e .0, (ap length (A .parents-left) ∙ length-filled (parentWord (graphOf g) (A .h)) (g .n) parents₀ (A .long), e .1))
 
   pub place-bounds : Bounds g (p .v) marks parents
   place-bounds =
       let S = A .sound in
       record {
-        vertex = A .scene .placed .vertex;
+        vertex = A .underway .scene .placed .vertex;
         few-vertices = S .few-vertices;
         few-edges = S .few-edges;
         long-after = S .long-after;
         long-tail = S .long-tail;
-        long-marks = omega (arith, A .roomy .long-marks, place-lengths .0);
+        long-marks = omega (arith, A .underway .roomy .long-marks, place-lengths .0);
         long-parents = omega (arith, A .long, place-lengths .1 .0);
       }
 
@@ -201,86 +186,64 @@ module _ {g : Image} {start : ℕ} {marks₀ parents₀ events₀ marks parents 
     N : Next (p .e) (A .rest)
     N = next-edge (p .e) (A .rest) (A .next) more
 
-    scene-ahead : Scene (graphOf g) start (A .h) (p .v) (A .done) (p .e ∷ N .later) (A .s)
-    scene-ahead = subst (λ (l : List ℕ). Scene (graphOf g) start (A .h) (p .v) (A .done) l (A .s)) (N .is) (A .scene)
+    ahead : Underway (graphOf g) (g .n + g .m) start (A .h) (p .v) (A .done) (p .e ∷ N .later) (A .s) marks₀ events₀ marks events (p .tally)
+    ahead = subst (λ (l : List ℕ). Underway (graphOf g) (g .n + g .m) start (A .h) (p .v) (A .done) l (A .s) marks₀ events₀ marks events (p .tally)) (N .is) (A .underway)
 
-    room-ahead : suc (suc (length (A .h))) ≤ length (depthWalk g start)
-    room-ahead = scene-room-edge (graphOf g) start (graph-closed g (A .sound)) scene-ahead
+    is-target : to g (p .e) ≡ target g (p .e)
+    is-target = read-past (g .n) (p .e) (g .tail)
 
     pub place-ahead : Ahead g (p .e)
     place-ahead =
-        let P = scene-ahead .placed in
+        let P = ahead .scene .placed in
         let e : Edge (g .n) (g .m) (p .e) = edge-of (A .sound) (p .v) (p .e) (A .done) (N .later) (P .vertex) (P .list) in
-        record { edge = e; leads = subst (Vertex (g .n)) (read-past (g .n) (p .e) (g .tail)) (A .sound .target (p .e) e) }
+        record { edge = e; leads = subst (Vertex (g .n)) is-target (moves.target-vertex ahead) }
 
-    -- Two events more are few.
     pub advance-few : 2 + total (p .tally) ≤ 10000
-    advance-few = omega (arith, room-ahead, held-total (A .held), A .roomy .few)
+    advance-few = moves.ahead-few ahead
 
     pub advance-emits : (j : Kind) → CanEmit (code j) (p .tally) (length events)
-    advance-emits j = can-emit (A .held) (A .roomy) (omega (arith, room-ahead)) j
-
-    held-advance : (j : Kind) → same label j ≡ false → {a ev : List ℕ} → (a ≡ counted (code j) (p .tally)) × (ev ≡ pasted (3 * total (p .tally)) (code j ∷ p .e ∷ p .v ∷ []) events) → Held (g .n + g .m) (A .h ▸ event j (p .e) (p .v)) marks₀ events₀ marks ev a
-    held-advance j q w = emitted (A .held) (A .roomy) (omega (arith, room-ahead)) j (p .e) (p .v) q w
-
-    high-target : target g (p .e) ≤ g .n + g .m
-    high-target = let b = place-ahead .leads in omega arith
+    advance-emits = moves.ahead-emits ahead
 
     -- The mark of its target tells whether that is labelled.
     mark-test : eqb (getD marks (target g (p .e) - 1) 0) 0 ≡ not (memb (target g (p .e)) (labelled (A .h)))
-    mark-test = ap (λ (w : ℕ). eqb w 0) (sym (read-at marks (target g (p .e)))) ∙ held-test (A .held) (target g (p .e)) (place-ahead .leads .0) high-target
+    mark-test = ap (λ (w : ℕ). eqb w 0) (sym (read-at marks (target g (p .e)))) ∙ held-test (A .underway .held) (target g (p .e)) (place-ahead .leads .0) (let b = place-ahead .leads in omega arith)
 
     -- It leads to a labelled vertex.
-    module _ {a ev : List ℕ} (one : (a ≡ counted 3 (p .tally)) × (ev ≡ pasted (3 * total (p .tally)) (3 ∷ p .e ∷ p .v ∷ []) events)) where
-      held-passed : Held (g .n + g .m) (A .h ▸ event advance-nontree (p .e) (p .v)) marks₀ events₀ marks ev a
-      held-passed = held-advance advance-nontree refl one
-
+    module _ {a ev : List ℕ} (one : Emits 3 (p .e) (p .v) events (p .tally) ev a) where
       pub pass-emits : CanEmit 4 a (length ev)
-      pass-emits = can-emit held-passed (A .roomy) room-ahead retreat-nontree
+      pass-emits = moves.pass-emits ahead one
 
-      module _ {b ev′ : List ℕ} (two : (b ≡ counted 4 a) × (ev′ ≡ pasted (3 * total a) (4 ∷ p .e ∷ p .v ∷ []) ev)) where
-        held-pass : Held (g .n + g .m) (A .h ▸ event advance-nontree (p .e) (p .v) ▸ event retreat-nontree (p .e) (p .v)) marks₀ events₀ marks ev′ b
-        held-pass = emitted held-passed (A .roomy) room-ahead retreat-nontree (p .e) (p .v) refl two
-
+      module _ {b ev′ : List ℕ} (two : Emits 4 (p .e) (p .v) ev a ev′ b) where
         pub pass-total : total b ≡ 2 + total (p .tally)
-        pass-total = omega (arith, held-total (A .held), held-total held-pass)
+        pass-total = moves.pass-total ahead one two
 
         pub pass-at : (getD marks (target g (p .e) - 1) 0 ≡ 0 → ⊥) → ParentAt g start marks₀ parents₀ events₀ marks parents ev′ (record { v = p .v; e = getD (g .after) (p .e - 1) 0; f = p .f; tally = b })
         pass-at ne =
-            let P = scene-ahead .placed in
+            let P = ahead .scene .placed in
+            let i : History = A .h ▸ event advance-nontree (p .e) (p .v) ▸ event retreat-nontree (p .e) (p .v) in
             let seen : memb (target g (p .e)) (labelled (A .h)) ≡ true = not-false _ (sym mark-test ∙ ne-eqb (getD marks (target g (p .e) - 1) 0) 0 ne) in
             record {
               sound = A .sound;
-              start-vertex = A .start-vertex;
-              roomy = A .roomy;
               long = A .long;
-              h = A .h ▸ event advance-nontree (p .e) (p .v) ▸ event retreat-nontree (p .e) (p .v);
+              h = i;
               done = p .e ∷ A .done;
               rest = N .later;
               s = A .s;
-              scene = scene-nontree (graphOf g) start (graph-closed g (A .sound)) scene-ahead (ap (λ (x : ℕ). memb x (labelled (A .h))) (read-past (g .n) (p .e) (g .tail)) ∙ seen);
-              entered = entered-same (graphOf g) (A .h) (A .h ▸ event advance-nontree (p .e) (p .v) ▸ event retreat-nontree (p .e) (p .v)) (A .s) (p .v) (λ y m. refl) (A .entered);
-              trees = (λ e. clash (sym e), (λ e. clash (sym e), A .trees));
-              held = held-pass;
+              underway = moves.pass-goes ahead one two (ap (λ (x : ℕ). memb x (labelled (A .h))) is-target ∙ seen);
+              entered = entered-same (graphOf g) (A .h) i (A .s) (p .v) (λ y m. refl) (A .entered);
               parents-left = A .parents-left;
               next = next-word (A .sound) (p .v) (p .e) (A .done) (N .later) (P .vertex) (P .list);
               trailer = A .trailer;
             }
 
     -- It leads to a vertex that is not labelled.
-    module _ {a ev : List ℕ} (one : (a ≡ counted 2 (p .tally)) × (ev ≡ pasted (3 * total (p .tally)) (2 ∷ p .e ∷ p .v ∷ []) events)) where
-      held-entered : Held (g .n + g .m) (A .h ▸ event advance-tree (p .e) (p .v)) marks₀ events₀ marks ev a
-      held-entered = held-advance advance-tree refl one
-
+    module _ {a ev : List ℕ} (one : Emits 2 (p .e) (p .v) events (p .tally) ev a) where
       pub tree-labels : CanLabel (target g (p .e)) a (length marks) (length ev)
-      tree-labels = can-label held-entered (A .roomy) room-ahead (target g (p .e)) (place-ahead .leads .0) high-target
+      tree-labels = moves.tree-labels ahead one (target g (p .e)) is-target
 
-      module _ {b mk ev′ : List ℕ} (two : (b ≡ counted 1 a) × ((mk ≡ put 0 marks (target g (p .e)) (suc (getD a 0 0))) × (ev′ ≡ pasted (3 * total a) (1 ∷ 0 ∷ target g (p .e) ∷ []) ev))) where
-        held-tree : Held (g .n + g .m) (A .h ▸ event advance-tree (p .e) (p .v) ▸ event label 0 (target g (p .e))) marks₀ events₀ mk ev′ b
-        held-tree = labels-it held-entered (A .roomy) room-ahead (target g (p .e)) (place-ahead .leads .0) high-target two
-
+      module _ {b mk ev′ : List ℕ} (two : Puts (target g (p .e)) marks ev a mk ev′ b) where
         pub tree-total : total b ≡ 2 + total (p .tally)
-        tree-total = omega (arith, held-total (A .held), held-total held-tree)
+        tree-total = moves.tree-total ahead one (target g (p .e)) is-target two
 
         pub tree-at : getD marks (target g (p .e) - 1) 0 ≡ 0 → ParentAt g start marks₀ parents₀ events₀ mk (set parents (target g (p .e) - 1) (p .f)) ev′ (record { v = target g (p .e); e = getD (g .after) (target g (p .e) - 1) 0; f = p .e; tally = b })
         unfolding put
@@ -290,38 +253,33 @@ module _ {g : Image} {start : ℕ} {marks₀ parents₀ events₀ marks parents 
             let h : History = A .h in
             let i : History = h ▸ event advance-tree (p .e) (p .v) ▸ event label 0 x in
             let hx : Vertex (g .n) x = place-ahead .leads in
-            let is : to g (p .e) ≡ x = read-past (g .n) (p .e) (g .tail) in
             let unseen : memb x (labelled h) ≡ false = not-true _ (sym mark-test ∙ eq-eqb (getD marks (x - 1) 0) 0 z) in
             let new : Mem x (labelled h) → ⊥ = memb-false x (labelled h) unseen in
-            let from : Mem (p .v) (labelled h) = A .scene .seen (p .v) (here refl) in
+            let from : Mem (p .v) (labelled h) = A .underway .scene .seen (p .v) (here refl) in
             record {
               sound = A .sound;
-              start-vertex = A .start-vertex;
-              roomy = A .roomy;
               long = A .long;
               h = i;
               done = [];
               rest = edgesOf g x;
               s = frame (p .v) (A .done) (p .e) (N .later) ∷ A .s;
-              scene = subst (λ (y : ℕ). Scene G start (h ▸ event advance-tree (p .e) (p .v) ▸ event label 0 y) y [] (edgesOf g y) (frame (p .v) (A .done) (p .e) (N .later) ∷ A .s)) is (scene-tree G start (graph-closed g (A .sound)) scene-ahead (ap (λ (y : ℕ). memb y (labelled h)) is ∙ unseen));
-              entered = (entry-new G h (p .e) (p .v) x is new, entered-same G h i (A .s) (p .v) (λ y m. entry-old G h (p .e) (p .v) x is new y (λ e. new (subst (λ (w : ℕ). Mem w (labelled h)) (sym e) (A .scene .seen y m)))) (A .entered));
-              trees = trees-tree G h (p .e) (p .v) x is new (hx .0) from (A .trees);
-              held = held-tree;
+              underway = moves.tree-goes ahead one x is-target two unseen;
+              entered = (entry-new G h (p .e) (p .v) x is-target new, entered-same G h i (A .s) (p .v) (λ y m. entry-old G h (p .e) (p .v) x is-target new y (λ e. new (subst (λ (w : ℕ). Mem w (labelled h)) (sym e) (A .underway .scene .seen y m)))) (A .entered));
               parents-left =
                   (λ j. put 0 (A .parents-left j) x ((A .trailer ∙ sym (entered-edge G h (A .s) (p .v) (A .entered))) j))
-                  ∙ parents-tree G h (p .e) (p .v) x is new (hx .0) from (A .trees) parents₀ (hx .1);
+                  ∙ parents-tree G h (p .e) (p .v) x is-target new (hx .0) from (A .underway .trees) parents₀ (hx .1);
               next = first-word (A .sound) x hx;
               trailer = refl;
             }
 
   -- No edge is ahead.
   module _ (none : p .e ≡ 0) where
-    scene-done : Scene (graphOf g) start (A .h) (p .v) (A .done) [] (A .s)
-    scene-done = go (A .rest) (A .next) (A .scene)
+    done-at : Underway (graphOf g) (g .n + g .m) start (A .h) (p .v) (A .done) [] (A .s) marks₀ events₀ marks events (p .tally)
+    done-at = go (A .rest) (A .next) (A .underway)
       where
-        go : (rest : List ℕ) → p .e ≡ head0 rest → Scene (graphOf g) start (A .h) (p .v) (A .done) rest (A .s) → Scene (graphOf g) start (A .h) (p .v) (A .done) [] (A .s)
-        go [] q S = S
-        go (y ∷ l) q S = absurd (let e = edge-of (A .sound) (p .v) y (A .done) l (S .placed .vertex) (S .placed .list) in let k : p .e ≡ y = q in omega arith)
+        go : (rest : List ℕ) → p .e ≡ head0 rest → Underway (graphOf g) (g .n + g .m) start (A .h) (p .v) (A .done) rest (A .s) marks₀ events₀ marks events (p .tally) → Underway (graphOf g) (g .n + g .m) start (A .h) (p .v) (A .done) [] (A .s) marks₀ events₀ marks events (p .tally)
+        go [] q U = U
+        go (y ∷ l) q U = absurd (let e = edge-of (A .sound) (p .v) y (A .done) l (U .scene .placed .vertex) (U .scene .placed .list) in let k : p .e ≡ y = q in omega arith)
 
     -- The trailer is a tree edge.
     module _ (some : p .f ≡ 0 → ⊥) where
@@ -332,32 +290,29 @@ module _ {g : Image} {start : ℕ} {marks₀ parents₀ events₀ marks parents 
       abbrev pub back : ℕ
       back = top .vertex
 
-      scene-back : Scene (graphOf g) start (A .h) (p .v) (A .done) [] (frame back (top .passed) (p .f) (top .ahead) ∷ top .below)
-      scene-back = subst (λ (s : List Frame). Scene (graphOf g) start (A .h) (p .v) (A .done) [] s) (top .is) scene-done
+      behind : Underway (graphOf g) (g .n + g .m) start (A .h) (p .v) (A .done) [] (frame back (top .passed) (p .f) (top .ahead) ∷ top .below) marks₀ events₀ marks events (p .tally)
+      behind = subst (λ (s : List Frame). Underway (graphOf g) (g .n + g .m) start (A .h) (p .v) (A .done) [] s marks₀ events₀ marks events (p .tally)) (top .is) done-at
 
       entered-back : Entered (graphOf g) (A .h) (frame back (top .passed) (p .f) (top .ahead) ∷ top .below) (p .v)
       entered-back = subst (λ (s : List Frame). Entered (graphOf g) (A .h) s (p .v)) (top .is) (A .entered)
 
-      room-back : suc (suc (length (A .h))) ≤ length (depthWalk g start)
-      room-back = scene-room-retreat (graphOf g) start scene-back
-
       pub retreat-few : 2 + total (p .tally) ≤ 10000
-      retreat-few = omega (arith, room-back, held-total (A .held), A .roomy .few)
+      retreat-few = moves.back-few behind
 
       pub retreat-edge : Edge (g .n) (g .m) (p .f)
-      retreat-edge = let a = scene-back .placed .above in edge-of (A .sound) back (p .f) (top .passed) (top .ahead) (a .1) (a .2)
+      retreat-edge = let a = behind .scene .placed .above in edge-of (A .sound) back (p .f) (top .passed) (top .ahead) (a .1) (a .2)
 
       -- The parent word of v is the trailer of the vertex that the search goes back to.
       word-back : getD parents (p .v - 1) 0 ≡ entering (top .below)
       word-back =
           sym (read-at parents (p .v))
           ∙ ap (λ (l : List ℕ). at 0 l (p .v)) (A .parents-left)
-          ∙ at-filled (parentWord (graphOf g) (A .h)) (g .n) parents₀ (p .v) (scene-back .placed .vertex .0) (scene-back .placed .vertex .1)
+          ∙ at-filled (parentWord (graphOf g) (A .h)) (g .n) parents₀ (p .v) (behind .scene .placed .vertex .0) (behind .scene .placed .vertex .1)
           ∙ entered-word (graphOf g) (A .h) back (p .f) (p .v) (top .passed) (top .ahead) (top .below) entered-back
 
       -- Null: that vertex is the start. Else it is where that edge leads to.
       pub back-start : getD parents (p .v - 1) 0 ≡ 0 → start ≡ back
-      back-start z = go (top .below) (sym word-back ∙ z) (scene-back .placed .above .3)
+      back-start z = go (top .below) (sym word-back ∙ z) (behind .scene .placed .above .3)
         where
           go : (s : List Frame) → entering s ≡ 0 → Above (graphOf g) start s back → start ≡ back
           go [] e a = sym a
@@ -365,51 +320,44 @@ module _ {g : Image} {start : ℕ} {marks₀ parents₀ events₀ marks parents 
 
       module _ (ne : getD parents (p .v - 1) 0 ≡ 0 → ⊥) where
         pub back-edge : Edge (g .n) (g .m) (getD parents (p .v - 1) 0)
-        back-edge = subst (Edge (g .n) (g .m)) (sym word-back) (trailer-edge (A .sound) start (top .below) back (scene-back .placed .above .3) (λ e. ne (word-back ∙ e)))
+        back-edge = subst (Edge (g .n) (g .m)) (sym word-back) (trailer-edge (A .sound) start (top .below) back (behind .scene .placed .above .3) (λ e. ne (word-back ∙ e)))
 
         pub back-target : target g (getD parents (p .v - 1) 0) ≡ back
-        back-target = sym (read-past (g .n) (getD parents (p .v - 1) 0) (g .tail)) ∙ ap (to g) word-back ∙ go (top .below) (λ e. ne (word-back ∙ e)) (scene-back .placed .above .3)
+        back-target = sym (read-past (g .n) (getD parents (p .v - 1) 0) (g .tail)) ∙ ap (to g) word-back ∙ go (top .below) (λ e. ne (word-back ∙ e)) (behind .scene .placed .above .3)
           where
             go : (s : List Frame) → (entering s ≡ 0 → ⊥) → Above (graphOf g) start s back → to g (entering s) ≡ back
             go [] n a = absurd (n refl)
             go (frame u du r ru ∷ s) n a = a .0
 
       pub scan-emits : CanEmit 6 (p .tally) (length events)
-      scan-emits = can-emit (A .held) (A .roomy) (omega (arith, room-back)) scan
+      scan-emits = moves.scan-emits behind
 
-      module _ {a ev : List ℕ} (one : (a ≡ counted 6 (p .tally)) × (ev ≡ pasted (3 * total (p .tally)) (6 ∷ 0 ∷ p .v ∷ []) events)) where
-        held-scanned : Held (g .n + g .m) (A .h ▸ event scan 0 (p .v)) marks₀ events₀ marks ev a
-        held-scanned = emitted (A .held) (A .roomy) (omega (arith, room-back)) scan 0 (p .v) refl one
-
+      module _ {a ev : List ℕ} (one : Emits 6 0 (p .v) events (p .tally) ev a) where
         pub retreat-emits : CanEmit 5 a (length ev)
-        retreat-emits = can-emit held-scanned (A .roomy) room-back retreat-tree
+        retreat-emits = moves.back-emits behind one
 
-        module _ (u : ℕ) {b ev′ : List ℕ} (two : (b ≡ counted 5 a) × (ev′ ≡ pasted (3 * total a) (5 ∷ p .f ∷ u ∷ []) ev)) where
-          held-retreat : Held (g .n + g .m) (A .h ▸ event scan 0 (p .v) ▸ event retreat-tree (p .f) u) marks₀ events₀ marks ev′ b
-          held-retreat = emitted held-scanned (A .roomy) room-back retreat-tree (p .f) u refl two
+        module _ (u : ℕ) {b ev′ : List ℕ} (two : Emits 5 (p .f) u ev a ev′ b) (is : u ≡ back) where
+          two-back : Emits 5 (p .f) back ev a ev′ b
+          two-back = subst (λ (y : ℕ). Emits 5 (p .f) y ev a ev′ b) is two
 
           pub retreat-total : total b ≡ 2 + total (p .tally)
-          retreat-total = omega (arith, held-total (A .held), held-total held-retreat)
+          retreat-total = moves.back-total behind one two-back
 
-          pub retreat-at : u ≡ back → ParentAt g start marks₀ parents₀ events₀ marks parents ev′ (record { v = u; e = getD (g .after) (p .f - 1) 0; f = getD parents (p .v - 1) 0; tally = b })
-          retreat-at is =
+          pub retreat-at : ParentAt g start marks₀ parents₀ events₀ marks parents ev′ (record { v = u; e = getD (g .after) (p .f - 1) 0; f = getD parents (p .v - 1) 0; tally = b })
+          retreat-at =
               let G : Graph = graphOf g in
               let h : History = A .h in
-              let i : History = h ▸ event scan 0 (p .v) ▸ event retreat-tree (p .f) u in
-              let P = scene-back .placed in
+              let i : History = h ▸ event scan 0 (p .v) ▸ event retreat-tree (p .f) back in
+              let P = behind .scene .placed in
               record {
                 sound = A .sound;
-                start-vertex = A .start-vertex;
-                roomy = A .roomy;
                 long = A .long;
                 h = i;
                 done = p .f ∷ top .passed;
                 rest = top .ahead;
                 s = top .below;
-                scene = subst (λ (y : ℕ). Scene G start (h ▸ event scan 0 (p .v) ▸ event retreat-tree (p .f) y) y (p .f ∷ top .passed) (top .ahead) (top .below)) (sym is) (scene-retreat G start scene-back);
+                underway = subst (λ (y : ℕ). Underway G (g .n + g .m) start i y (p .f ∷ top .passed) (top .ahead) (top .below) marks₀ events₀ marks ev′ b) (sym is) (moves.back-goes behind one two-back);
                 entered = entered-same G h i (top .below) u (λ y m. refl) (subst (λ (y : ℕ). Entered G h (top .below) y) (sym is) (entered-back .1));
-                trees = (λ e. clash (sym e), (λ e. clash (sym e), A .trees));
-                held = held-retreat;
                 parents-left = A .parents-left;
                 next = next-word (A .sound) back (p .f) (top .passed) (top .ahead) (P .above .1) (P .above .2);
                 trailer = word-back;
@@ -417,60 +365,43 @@ module _ {g : Image} {start : ℕ} {marks₀ parents₀ events₀ marks parents 
 
     -- There is no trailer: the start is being scanned.
     module _ (nil : p .f ≡ 0) where
-      ends : (A .h ▸ event scan 0 start) ≡ depthWalk g start
-      ends = go (A .s) (A .trailer) scene-done
+      bottom : Underway (graphOf g) (g .n + g .m) start (A .h) (p .v) (A .done) [] [] marks₀ events₀ marks events (p .tally)
+      bottom = go (A .s) (A .trailer) done-at
         where
-          go : (s : List Frame) → p .f ≡ entering s → Scene (graphOf g) start (A .h) (p .v) (A .done) [] s → (A .h ▸ event scan 0 start) ≡ depthWalk g start
-          go [] q S = ap (λ (y : ℕ). A .h ▸ event scan 0 y) (sym (S .placed .above)) ∙ scene-end (graphOf g) start S
-          go (frame u du r ru ∷ s) q S = absurd (let a = S .placed .above in let e = edge-of (A .sound) u r du ru (a .1) (a .2) in let k : p .f ≡ r = q in omega arith)
-
-      room-last : suc (length (A .h)) ≤ length (depthWalk g start)
-      room-last = omega (arith, ap length ends)
+          go : (s : List Frame) → p .f ≡ entering s → Underway (graphOf g) (g .n + g .m) start (A .h) (p .v) (A .done) [] s marks₀ events₀ marks events (p .tally) → Underway (graphOf g) (g .n + g .m) start (A .h) (p .v) (A .done) [] [] marks₀ events₀ marks events (p .tally)
+          go [] q U = U
+          go (frame u du r ru ∷ s) q U = absurd (let a = U .scene .placed .above in let e = edge-of (A .sound) u r du ru (a .1) (a .2) in let k : p .f ≡ r = q in omega arith)
 
       pub last-emits : CanEmit 6 (p .tally) (length events)
-      last-emits = can-emit (A .held) (A .roomy) room-last scan
+      last-emits = moves.end-emits bottom
 
       -- The scan of the start is the last event.
-      pub search-ends : {t ev : List ℕ} → (t ≡ counted 6 (p .tally)) × (ev ≡ pasted (3 * total (p .tally)) (6 ∷ 0 ∷ start ∷ []) events) → Ended g start marks₀ parents₀ events₀ marks parents ev t
-      search-ends {t} {ev} w = record {
-        held = subst (λ (i : History). Held (g .n + g .m) i marks₀ events₀ marks ev t) ends (emitted (A .held) (A .roomy) room-last scan 0 start refl w);
-        parents-left = A .parents-left ∙ ap (λ (i : History). parentLeft (graphOf g) i parents₀) ends;
-      }
+      pub search-ends : {t ev : List ℕ} → Emits 6 0 start events (p .tally) ev t → Ended g start marks₀ parents₀ events₀ marks parents ev t
+      search-ends w = record { held = moves.end-held bottom w; parents-left = A .parents-left ∙ ap (λ (i : History). parentLeft (graphOf g) i parents₀) (moves.end-is bottom) }
 
 -- ---- the beginning
 module _ {g : Image} {start : ℕ} {marks₀ parents₀ events₀ : List ℕ} (C : CanSearch g start marks₀ parents₀ events₀) where
-  first-scene : Scene (graphOf g) start ([] ▸ event label 0 start) start [] (edgesOf g start) []
-  first-scene = scene-first (graphOf g) start (profile-ready g (C .sound) start (C .start-vertex))
-
-  room-first : 3 ≤ length events₀
-  room-first = omega (arith, ap length (first-scene .future), C .roomy .room)
+  ready : Ready (graphOf g) [] start
+  ready = profile-ready g (C .sound) start (C .start-vertex)
 
   pub can-open : CanBegin (g .n + g .m) start (length marks₀) (length events₀)
-  can-open = record { long = C .roomy .long-marks; low = C .start-vertex .0; high = let v = C .start-vertex in omega arith; room = room-first }
+  can-open = moves.can-begin ready (omega arith) (C .roomy)
 
-  pub open-at : {marks parents events t : List ℕ} → parents ≡ cleared (g .n) parents₀
-      → (t ≡ 1 ∷ 0 ∷ 0 ∷ 0 ∷ 0 ∷ 0 ∷ 0 ∷ []) × ((marks ≡ put 0 (cleared (g .n + g .m) marks₀) start 1) × (events ≡ pasted 0 (1 ∷ 0 ∷ start ∷ []) events₀))
+  pub open-at : {marks parents events t : List ℕ} → parents ≡ cleared (g .n) parents₀ → Starts (g .n + g .m) start marks₀ events₀ marks events t
       → ParentAt g start marks₀ parents₀ events₀ marks parents events (record { v = start; e = getD (g .after) (start - 1) 0; f = 0; tally = t })
-  open-at c w =
-      let v = C .start-vertex in
-      let H = held-begin (g .n + g .m) marks₀ events₀ start (v .0) (omega arith) in
-      record {
-        sound = C .sound;
-        start-vertex = v;
-        roomy = C .roomy;
-        long = C .long;
-        h = [] ▸ event label 0 start;
-        done = [];
-        rest = edgesOf g start;
-        s = [];
-        scene = first-scene;
-        entered = refl;
-        trees = (λ e. here refl, tt);
-        held = record { marked = w .1 .0 ∙ H .marked; written = w .1 .1 ∙ H .written; counts = w .0 ∙ H .counts };
-        parents-left = c ∙ cleared-filled (g .n) parents₀;
-        next = first-word (C .sound) start v;
-        trailer = refl;
-      }
+  open-at c w = record {
+    sound = C .sound;
+    long = C .long;
+    h = [] ▸ event label 0 start;
+    done = [];
+    rest = edgesOf g start;
+    s = [];
+    underway = moves.begun ready (omega arith) (C .roomy) w;
+    entered = refl;
+    parents-left = c ∙ cleared-filled (g .n) parents₀;
+    next = first-word (C .sound) start (C .start-vertex);
+    trailer = refl;
+  }
 
 -- ---- from place to place
 -- From one place the search goes to another, whatever the areas were as lent.

@@ -4,9 +4,10 @@ use mathlib.Core.List.{List, [], _∷_}
 use Prim.Native.Nat.{ℕ, suc, _+_, _-_, _≤_}
 use lib.Dec.{eqb}
 use lib.ListN.{length}
+use Rattle.lists.specs.Members.{Mem}
 use Rattle.lists.specs.Words.{at, put, valuesFrom}
 use Rattle.graphs.specs.Nodes.{Vertex}
-use Rattle.graphs.specs.Events.{History}
+use Rattle.graphs.specs.Events.{History, labelled}
 use Rattle.graphs.specs.ArrayForm.{ArrayForm, arrayGraph}
 use Rattle.graphs.specs.Results.{lastTree, incrementLeft}
 use Rattle.graphs.proofs.ArraySound.{ArraySound}
@@ -16,42 +17,23 @@ use Rattle.walkers.specs.declared.place.Place.{Place}
 use Rattle.walkers.specs.Promises.{arrayWalk}
 use Rattle.walkers.specs.Writing.{Held, Roomy}
 
+-- The edges of v from position e on.
+abbrev pub ahead : ArrayForm → ℕ → ℕ → List ℕ
+ahead a v e = valuesFrom (λ x. a .n + x) (e - 1) (at 0 (a .firsts) (suc v) - e)
+
 -- The tail of each tree edge under way holds the parent of the vertex that the edge leaves.
 abbrev pub bentTails : ArrayForm → List Frame → List ℕ
 bentTails a [] = a .tails
 bentTails a (frame u du r ru ∷ s) = put (a .n) (bentTails a s) r (parent s)
 
+-- The last tree edge out of u; 0 where there is none.
+abbrev pub lastFrom : History → ℕ → ℕ
+lastFrom h u = lastTree (λ x y. eqb y u) h .0
+
 -- The last tree edge out of each vertex on the path is the one of its frame.
 abbrev pub Left : History → List Frame → Type 0
 Left h [] = Unit {0}
-Left h (frame u du r ru ∷ s) = (lastTree (λ x y. eqb y u) h ≡ (r, u)) × Left h s
-
--- At a place: the edges ahead begin with position e, the trailer is the parent of v, and the areas are those that the events so far leave.
-pub record ArrayAt (a : ArrayForm) (start : ℕ) (marks₀ increments₀ events₀ tails marks increments events : List ℕ) (p : Place) : Type 0 where
-  pub sound : ArraySound a
-  pub start-vertex : Vertex (a .n) start
-  pub roomy : Roomy (a .n + a .m) (arrayWalk a start) marks₀ events₀
-  pub long : a .n ≤ length increments₀
-  pub h : History
-  pub done : List ℕ
-  pub rest : List ℕ
-  pub s : List Frame
-  pub scene : Scene (arrayGraph a) start h (p .v) done rest s
-  pub left : Left h s
-  pub held : Held (a .n + a .m) h marks₀ events₀ marks events (p .tally)
-  pub increments-left : increments ≡ incrementLeft (arrayGraph a) h increments₀
-  pub bent : tails ≡ bentTails a s
-  pub low : at 0 (a .firsts) (p .v) ≤ p .e
-  pub high : p .e ≤ at 0 (a .firsts) (suc (p .v))
-  pub ahead : rest ≡ valuesFrom (λ x. a .n + x) (p .e - 1) (at 0 (a .firsts) (suc (p .v)) - p .e)
-  pub trailer : p .f ≡ parent s
-
-pub record SomeArrayAt (n m start : ℕ) (firsts tails marks increments events : List ℕ) (p : Place) : Type 0 where
-  pub tails₀ : List ℕ
-  pub marks₀ : List ℕ
-  pub increments₀ : List ℕ
-  pub events₀ : List ℕ
-  pub is : ArrayAt (arrayIn n m firsts tails₀) start marks₀ increments₀ events₀ tails marks increments events p
+Left h (frame u du r ru ∷ s) = (lastFrom h u ≡ r) × Left h s
 
 -- The search can begin.
 pub record CanSearch (a : ArrayForm) (start : ℕ) (marks increments events : List ℕ) : Type 0 where
@@ -59,6 +41,29 @@ pub record CanSearch (a : ArrayForm) (start : ℕ) (marks increments events : Li
   pub start-vertex : Vertex (a .n) start
   pub roomy : Roomy (a .n + a .m) (arrayWalk a start) marks events
   pub long : a .n ≤ length increments
+
+-- At a place: the edges ahead begin with position e, the trailer is the parent of v, and the areas are those that the events so far leave.
+pub record ArrayAt (a : ArrayForm) (start : ℕ) (marks₀ increments₀ events₀ tails marks increments events : List ℕ) (p : Place) : Type 0 where
+  pub can : CanSearch a start marks₀ increments₀ events₀
+  pub h : History
+  pub done : List ℕ
+  pub s : List Frame
+  pub scene : Scene (arrayGraph a) start h (p .v) done (ahead a (p .v) (p .e)) s
+  pub low : at 0 (a .firsts) (p .v) ≤ p .e
+  pub high : p .e ≤ at 0 (a .firsts) (suc (p .v))
+  pub trailer : p .f ≡ parent s
+  pub left : Left h s
+  pub fresh : (x : ℕ) → (Mem x (labelled h) → ⊥) → lastFrom h x ≡ 0
+  pub held : Held (a .n + a .m) h marks₀ events₀ marks events (p .tally)
+  pub increments-left : increments ≡ incrementLeft (arrayGraph a) h increments₀
+  pub bent : tails ≡ bentTails a s
+
+pub record SomeArrayAt (n m start : ℕ) (firsts tails marks increments events : List ℕ) (p : Place) : Type 0 where
+  pub tails₀ : List ℕ
+  pub marks₀ : List ℕ
+  pub increments₀ : List ℕ
+  pub events₀ : List ℕ
+  pub is : ArrayAt (arrayIn n m firsts tails₀) start marks₀ increments₀ events₀ tails marks increments events p
 
 -- It has ended.
 pub record Ended (a : ArrayForm) (start : ℕ) (marks₀ increments₀ events₀ tails marks increments events t : List ℕ) : Type 0 where

@@ -10,32 +10,27 @@ use Rattle.graphs.specs.Events.{History, labelled}
 use Rattle.graphs.specs.Image.{Image, graphOf}
 use Rattle.graphs.specs.Results.{entry, parentLeft}
 use Rattle.graphs.proofs.Sound.{head0, Sound}
-use Rattle.graphs.proofs.Places.{Frame, frame, entering, Scene}
-use Rattle.graphs.proofs.Trees.{AllTrees}
+use Rattle.graphs.proofs.Places.{Frame, frame, entering}
 use Rattle.walkers.specs.declared.place.Place.{Place}
 use Rattle.walkers.specs.Promises.{depthWalk}
 use Rattle.walkers.specs.Writing.{Held, Roomy}
+use Rattle.walkers.specs.Moves.{Underway}
 
 -- The tree edge into each vertex on the path is the one of its frame.
 abbrev pub Entered : Graph → History → List Frame → ℕ → Type 0
 Entered G h [] v = entry G h v ≡ (0, 0)
 Entered G h (frame u du r ru ∷ s) v = (entry G h v ≡ (r, u)) × Entered G h s u
 
--- At a place: e is the first edge ahead, the trailer is the tree edge into v, and the areas are those that the events so far leave. Every
--- tree edge so far leaves a labelled vertex.
+-- At a place: e is the first edge ahead, the trailer is the tree edge into v, and the parent area is that which the events so far leave.
 pub record ParentAt (g : Image) (start : ℕ) (marks₀ parents₀ events₀ marks parents events : List ℕ) (p : Place) : Type 0 where
   pub sound : Sound g
-  pub start-vertex : Vertex (g .n) start
-  pub roomy : Roomy (g .n + g .m) (depthWalk g start) marks₀ events₀
   pub long : g .n ≤ length parents₀
   pub h : History
   pub done : List ℕ
   pub rest : List ℕ
   pub s : List Frame
-  pub scene : Scene (graphOf g) start h (p .v) done rest s
+  pub underway : Underway (graphOf g) (g .n + g .m) start h (p .v) done rest s marks₀ events₀ marks events (p .tally)
   pub entered : Entered (graphOf g) h s (p .v)
-  pub trees : AllTrees (λ r u. Mem u (labelled h)) h
-  pub held : Held (g .n + g .m) h marks₀ events₀ marks events (p .tally)
   pub parents-left : parents ≡ parentLeft (graphOf g) h parents₀
   pub next : p .e ≡ head0 rest
   pub trailer : p .f ≡ entering s

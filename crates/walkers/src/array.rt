@@ -11,7 +11,7 @@ use crate::write::refused;
 use images::Vertex;
 ghost use mathlib.Core.Path.{_≡_};
 ghost use mathlib.Core.Logic.{_≢_};
-ghost use mathlib.Core.List.{List, []};
+ghost use mathlib.Core.List.{List};
 ghost use Prim.Native.Nat.{ℕ, suc, _+_, _<_, _≤_};
 ghost use Rattle.lists.specs.Words.{at};
 ghost use Rattle.graphs.specs.ArrayForm.{arrayGraph};
@@ -119,6 +119,7 @@ fn descend(
     requires { ⌜ SomeArrayAt n m start (now firsts) (now tails) (now marks) (now increments) (now events) p ⌝ }
     ensures at { λ q. ⌜ ((tails₀ marks₀ increments₀ events₀ : List ℕ) → ArrayAt (arrayIn n m (now (firsts .entry)) tails₀) start marks₀ increments₀ events₀ (now (tails .entry)) (now (marks .entry)) (now (increments .entry)) (now (events .entry)) p → ArrayAt (arrayIn n m (now (firsts .entry)) tails₀) start marks₀ increments₀ events₀ (now (tails .exit)) (now (marks .exit)) (now (increments .exit)) (now (events .exit)) q) ⌝ }
     ensures done { λ q. ⌜ q .e ≡ at 0 (now (firsts .entry)) (suc (q .v)) ⌝ }
+    ensures words { λ q. ⌜ total (p .tally) ≤ total (q .tally) ⌝ }
 {
     let mut q = p;
     while q.e < firsts[q.v as usize] {
