@@ -1,27 +1,25 @@
 -- The claims of specs/Claims, by citing what graphs/ has proved of searches.
-use mathlib.Core.Path.{_≡_, refl, sym, ap, _∙_}
-use mathlib.Core.Bool.{true, false}
-use mathlib.Core.List.{List, [], _∷_, _++_, reverse}
-use Prim.Native.Nat.{ℕ, _+_, _*_, _≤_}
+use mathlib.Core.Path.{sym, _∙_}
+use mathlib.Core.List.{List, [], _++_}
+use Prim.Native.Nat.{ℕ, _+_}
 use native.Mathlib.Omega.{arith}
-use lib.ListN.{length}
 use Rattle.graphs.specs.Events.{History, words}
-use Rattle.graphs.specs.Image.{Image, graphOf}
-use Rattle.graphs.specs.ArrayForm.{ArrayForm, arrayGraph, arrayLeft, numbersLeft}
+use Rattle.graphs.specs.Image.{graphOf}
+use Rattle.graphs.specs.ArrayForm.{ArrayForm, arrayGraph, arrayLeft}
 use Rattle.graphs.specs.Refusals.{Lent}
 use Rattle.graphs.proofs.Refusals.{taken-sound, checked-sound}
 use Rattle.graphs.proofs.Results.{tally-sums}
-use Rattle.graphs.proofs.Room.{words-length, profile-ready, array-ready}
+use Rattle.graphs.proofs.Room.{profile-ready, array-ready}
 use Rattle.graphs.proofs.Depth.{depth-first}
 use Rattle.graphs.proofs.Breadth.{breadth-first}
 use Rattle.graphs.proofs.Arrays.{array-same}
 use Rattle.graphs.proofs.Renamed.{converted-search}
-use Rattle.walkers.specs.Promises.{writtenAreas, walkNumber, arrayWalkNumber, depthWalk, arrayWalk, breadthWalk}
-use Rattle.walkers.specs.Claims.{TakenClaim, Fits, AsDefined, WalkClaim, ArrayWalkClaim, ConvertedClaim}
-use Rattle.walkers.specs.Writing.{Roomy}
-use Rattle.walkers.proofs.Writing.{begins, words-many}
-use Rattle.walkers.proofs.Numbers.{array-walk-same}
-use Rattle.walkers.proofs.ArrayBegins.{array-begins}
+use Rattle.walks.specs.Promises.{writtenAreas}
+use Rattle.walkers.specs.Claims.{TakenClaim, Fits, WalkClaim, ArrayWalkClaim, ConvertedClaim}
+use Rattle.walks.specs.Writing.{Roomy}
+use Rattle.walks.proofs.Writing.{begins, words-many}
+use Rattle.walks.proofs.Numbers.{array-walk-same}
+use Rattle.walks.proofs.ArrayBegins.{array-begins}
 
 pub taken : TakenClaim
 taken g start marks events own = taken-sound g start (writtenAreas (g .n + g .m) marks events ++ own)

@@ -3,7 +3,7 @@
 use mathlib.Core.Path.{_≡_}
 use mathlib.Core.Logic.{_↔_}
 use mathlib.Core.Bool.{true, false}
-use mathlib.Core.List.{List, [], _∷_, _++_, reverse}
+use mathlib.Core.List.{List, [], _++_, reverse}
 use Prim.Native.Nat.{ℕ, _+_, _≤_}
 use lib.ListN.{length}
 use Rattle.lists.specs.Counts.{sumOf}
@@ -12,7 +12,7 @@ use Rattle.graphs.specs.Image.{Image, graphOf}
 use Rattle.graphs.specs.ArrayForm.{ArrayForm, arrayGraph, arrayLeft, numbersLeft}
 use Rattle.graphs.specs.Refusals.{Lent, short, imageAreas, sound}
 use Rattle.graphs.specs.Claims.{DepthClaim, BreadthClaim, SameSearch}
-use Rattle.walkers.specs.Promises.{writtenAreas, walkNumber, arrayWalkNumber, depthWalk, arrayWalk, breadthWalk}
+use Rattle.walks.specs.Promises.{writtenAreas, walkNumber, arrayWalkNumber, depthWalk, arrayWalk, breadthWalk}
 
 -- A walk of a linked image is taken exactly where the profile is sound and every area is as long as stated.
 abbrev pub TakenClaim : Type 0

@@ -1,0 +1,2 @@
+pub mod Recursion
+pub mod Parents

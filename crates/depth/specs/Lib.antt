@@ -1,0 +1,2 @@
+pub mod Recursive
+pub mod Parents

@@ -1,0 +1,575 @@
+-- The search over the array form, move by move.
+-- An edge is its position: its rank on its vertex's list is the increment, and the tails differ from those lent only at the tree edges under way.
+use mathlib.Core.Path.{_≡_, refl, sym, ap, _∙_, subst}
+use mathlib.Core.Logic.{_≢_}
+use mathlib.Core.Bool.{Bool, true, false, cond}
+use mathlib.Core.List.{List, [], _∷_, _++_, reverse, reverseAux}
+use Prim.Native.Nat.{ℕ, zero, suc, _+_, _-_, _≤_, _<_, min, max}
+use native.Mathlib.Omega.{arith}
+use lib.Dec.{eqb}
+use lib.ListN.{length, getD, set, drop}
+use borrow.Author.Tests.{eq-eqb, ne-eqb}
+use Rattle.lists.specs.Members.{Mem, here, there, memb}
+use Rattle.lists.specs.Counts.{rank}
+use Rattle.lists.specs.Words.{at, put, cleared, valuesFrom}
+use Rattle.lists.proofs.Tests.{Compared, equal, other, compare}
+use Rattle.lists.proofs.Members.{mem-memb, memb-false, mem-reverse}
+use Rattle.lists.proofs.Counts.{rank-none}
+use Rattle.lists.proofs.Words.{put-put, put-at, at-put, but, put-filled, at-filled, length-filled, cleared-filled, values-same}
+use Rattle.graphs.specs.Nodes.{Vertex}
+use Rattle.graphs.specs.Graph.{Graph}
+use Rattle.graphs.specs.Events.{event, label, advance-tree, advance-nontree, retreat-tree, retreat-nontree, scan, History, _▸_, labelled}
+use Rattle.graphs.specs.ArrayForm.{ArrayForm, arrayGraph}
+use Rattle.graphs.specs.Results.{lastTree, incrementWord, incrementLeft}
+use Rattle.graphs.proofs.ArraySound.{ArraySound}
+use Rattle.graphs.proofs.Owned.{values-in, array-owned}
+use Rattle.graphs.proofs.Room.{array-ready}
+use Rattle.graphs.proofs.Places.{Frame, frame, parent, path, Above, of-rest, scene-edge}
+use Rattle.graphs.proofs.Trees.{AllTrees, no-tree, all-trees}
+use Rattle.graphs.proofs.Tails.{tails-length, tails-kept}
+use Rattle.images.specs.Arrays.{arrayIn}
+use Rattle.images.proofs.Checks.{word-here}
+use Rattle.images.proofs.Arrays.{read-at}
+use Rattle.walks.specs.declared.place.Place.{Place}
+use Rattle.walks.specs.Writing.{total}
+use Rattle.walks.specs.Moves.{Underway}
+use Rattle.walks.proofs.Writing.{Emits, Puts, Starts, all-cleared}
+use Rattle.walks.proofs.Moves as moves
+use Rattle.depth_array.specs.Increments.{ahead, tailsLeft, lastFrom, Left, CanSearch, ArrayAt, SomeArrayAt, Ended}
+
+-- ---- positions
+-- Position p is named n + p.
+abbrev names : ℕ → ℕ → ℕ → List ℕ
+names n b k = valuesFrom (λ p. n + p) b k
+
+-- What does not stand in a list has the rank that it has behind the list.
+rank-past : (x : ℕ) (l more : List ℕ) → (Mem x l → ⊥) → rank x (reverseAux l more) ≡ rank x more
+rank-past x [] more h = refl
+rank-past x (y ∷ l) more h = rank-past x l (y ∷ more) (λ m. h (there m)) ∙ rw (ne-eqb x y (λ e. h (here e)))
+
+-- A position's rank from the front is its distance from the first.
+rank-names : (n b k p : ℕ) (more : List ℕ) → b < p → p ≤ b + k → rank (n + p) (reverseAux (names n b k) more) ≡ length more + (p - b)
+rank-names n b zero p more h q = absurd (omega arith)
+rank-names n b (suc k) p more h q = go (compare (n + p) (n + suc b)) (λ x y. rank-names n (suc b) k p ((n + suc b) ∷ more) x y)
+  where
+    whole : ℕ
+    whole = rank (n + p) (reverseAux (names n (suc b) k) ((n + suc b) ∷ more))
+
+    go : Compared (n + p) (n + suc b) → (suc b < p → p ≤ suc b + k → whole ≡ suc (length more) + (p - suc b)) → whole ≡ length more + (p - b)
+    go (equal e t) ih =
+        let first : cond (eqb (n + p) (n + suc b)) (suc (length more)) (rank (n + p) more) ≡ length more + (p - b) = rw t (omega arith) in
+        rank-past (n + p) (names n (suc b) k) ((n + suc b) ∷ more) (λ m. (let z = values-in n (suc b) k (n + p) m in omega arith)) ∙ first
+    go (other ne t) ih = let z = ih (omega arith) (omega arith) in omega arith
+
+-- Positions with one in front.
+record Front (n b k d : ℕ) (rest : List ℕ) : Type 0 where
+  some : 0 < k
+  first : d ≡ n + suc b
+  next : rest ≡ names n (suc b) (k - 1)
+
+front : (n b k d : ℕ) (rest : List ℕ) → (d ∷ rest) ≡ names n b k → Front n b k d rest
+front n b zero d rest e = absurd (omega (arith, ap length e))
+front n b (suc k) d rest e =
+    let z : k ≡ suc k - 1 = omega arith in
+    let t : rest ≡ names n (suc b) k = cc in
+    record { some = omega arith; first = cc; next = t ∙ ap (names n (suc b)) z }
+
+-- Positions of which some were passed.
+record Passed (n b k : ℕ) (done rest : List ℕ) : Type 0 where
+  few : length done ≤ k
+  next : rest ≡ names n (b + length done) (k - length done)
+
+passed : (n b k : ℕ) (done rest : List ℕ) → names n b k ≡ reverseAux done rest → Passed n b k done rest
+passed n b k [] rest e =
+    let z : b ≡ b + 0 = omega arith in
+    let y : k ≡ k - 0 = omega arith in
+    record { few = omega arith; next = sym e ∙ (λ i. names n (z i) (y i)) }
+passed n b k (d ∷ done) rest e =
+    let P = passed n b k done (d ∷ rest) e in
+    let F = front n (b + length done) (k - length done) d rest (P .next) in
+    let s = F .some in
+    let z : suc (b + length done) ≡ b + suc (length done) = omega arith in
+    let y : k - length done - 1 ≡ k - suc (length done) = omega arith in
+    record { few = omega arith; next = F .next ∙ (λ i. names n (z i) (y i)) }
+
+-- ---- the position of an edge
+record Stands (a : ArrayForm) (u r : ℕ) (rest : List ℕ) : Type 0 where
+  pub p : ℕ
+  pub named : r ≡ a .n + p
+  pub low : at 0 (a .firsts) u ≤ p
+  pub high : p < at 0 (a .firsts) (suc u)
+  pub next : rest ≡ ahead a u (suc p)
+
+module _ (a : ArrayForm) (A : ArraySound a) where
+  stands : (u r : ℕ) (done rest : List ℕ) → Vertex (a .n) u → arrayGraph a .out u ≡ reverseAux done (r ∷ rest) → Stands a u r rest
+  stands u r done rest hu e =
+      let f : ℕ = at 0 (a .firsts) u in
+      let g : ℕ = at 0 (a .firsts) (suc u) in
+      let one = A .from-one u (hu .0) (omega arith) in
+      let rise = A .rising u (suc u) (hu .0) (omega arith) (omega arith) in
+      let P = passed (a .n) (f - 1) (g - f) done (r ∷ rest) e in
+      let F = front (a .n) (f - 1 + length done) (g - f - length done) r rest (P .next) in
+      let s = F .some in
+      let q : suc (f - 1 + length done) ≡ f + length done = omega arith in
+      let y : suc (f - 1 + length done) ≡ suc (f + length done) - 1 = omega arith in
+      let z : g - f - length done - 1 ≡ g - suc (f + length done) = omega arith in
+      record { p = f + length done; named = F .first ∙ ap (λ (x : ℕ). a .n + x) q; low = omega arith; high = omega arith; next = F .next ∙ (λ i. names (a .n) (y i) (z i)) }
+
+  -- Its rank on the list is its distance from the first position.
+  edge-rank : (u p : ℕ) → Vertex (a .n) u → at 0 (a .firsts) u ≤ p → p < at 0 (a .firsts) (suc u) → rank (a .n + p) (reverse (arrayGraph a .out u)) ≡ suc (p - at 0 (a .firsts) u)
+  edge-rank u p hu l g =
+      let one = A .from-one u (hu .0) (omega arith) in
+      let r = rank-names (a .n) (at 0 (a .firsts) u - 1) (at 0 (a .firsts) (suc u) - at 0 (a .firsts) u) p [] (omega arith) (omega arith) in
+      omega arith
+
+  -- No edge is named 0.
+  not-null : (u : ℕ) → Vertex (a .n) u → Mem 0 (arrayGraph a .out u) → ⊥
+  not-null u hu m = let e = array-owned a A .edge u 0 hu m in omega arith
+
+-- The edges ahead, of which there is one.
+ahead-next : (a : ArrayForm) (v e : ℕ) → 1 ≤ e → e < at 0 (a .firsts) (suc v) → ahead a v e ≡ (a .n + e) ∷ ahead a v (suc e)
+ahead-next a v e l g =
+    let f : ℕ = at 0 (a .firsts) (suc v) in
+    let z : f - e ≡ suc (f - suc e) = omega arith in
+    let y : suc (e - 1) ≡ e = omega arith in
+    let x : suc (e - 1) ≡ suc e - 1 = omega arith in
+    ap (names (a .n) (e - 1)) z ∙ (λ i. (a .n + y i) ∷ names (a .n) (x i) (f - suc e))
+
+ahead-none : (a : ArrayForm) (v e : ℕ) → e ≡ at 0 (a .firsts) (suc v) → ahead a v e ≡ []
+ahead-none a v e q = let z : at 0 (a .firsts) (suc v) - e ≡ 0 = omega arith in ap (names (a .n) (e - 1)) z
+
+-- ---- increments
+module _ (G : Graph) (h : History) (area : List ℕ) where
+  increment-at : (x : ℕ) → Vertex (G .size) x → at 0 (incrementLeft G h area) x ≡ incrementWord G h x
+  increment-at x hx = at-filled (incrementWord G h) (G .size) area x (hx .0) (hx .1)
+
+  -- An increment of 0 is an unlabelled vertex.
+  increment-zero : (x : ℕ) → Vertex (G .size) x → at 0 (incrementLeft G h area) x ≡ 0 → memb x (labelled h) ≡ false
+  increment-zero x hx e = go (memb x (labelled h)) (sym (increment-at x hx) ∙ e)
+    where
+      go : (b : Bool) → cond b (max 1 (rank (lastFrom h x) (reverse (G .out x)))) 0 ≡ 0 → b ≡ false
+      go true z = absurd (omega arith)
+      go false z = refl
+
+  increment-some : (x : ℕ) → Vertex (G .size) x → at 0 (incrementLeft G h area) x ≢ 0 → memb x (labelled h) ≡ true
+  increment-some x hx ne = go (memb x (labelled h)) refl
+    where
+      go : (b : Bool) → memb x (labelled h) ≡ b → b ≡ true
+      go true z = refl
+      go false z = absurd (ne (increment-at x hx ∙ rw z))
+
+  -- A tree advance along r from v, and the label of x: two words change.
+  module _ (v r x : ℕ) (hv : Vertex (G .size) v) (hx : Vertex (G .size) x) (seen : Mem v (labelled h)) (new : Mem x (labelled h) → ⊥) (none : lastFrom h x ≡ 0) (null : Mem 0 (G .out x) → ⊥) (w : ℕ) (some : 1 ≤ w) (is : rank r (reverse (G .out v)) ≡ w) where
+    abbrev later : History
+    later = h ▸ event advance-tree r v ▸ event label 0 x
+
+    word-child : incrementWord G later x ≡ 1
+    word-child =
+        let z : rank (lastFrom h x) (reverse (G .out x)) ≡ 0 = ap (λ (k : ℕ). rank k (reverse (G .out x))) none ∙ rank-none 0 (reverse (G .out x)) (λ m. null (mem-reverse (G .out x) 0 .0 m)) in
+        rw (eq-eqb x x refl, ne-eqb v x (λ e. new (subst (λ (y : ℕ). Mem y (labelled h)) e seen)), z)
+
+    word-parent : incrementWord G later v ≡ w
+    word-parent = rw (ne-eqb v x (λ e. new (subst (λ (y : ℕ). Mem y (labelled h)) e seen)), mem-memb seen, eq-eqb v v refl, is) (omega arith)
+
+    word-else : (y : ℕ) → Compared y x → Compared y v → but (but (incrementWord G h) v w) x 1 y ≡ incrementWord G later y
+    word-else y (equal e t) d = ap (λ (b : Bool). cond b 1 (but (incrementWord G h) v w y)) t ∙ sym (ap (incrementWord G later) e ∙ word-child)
+    word-else y (other ne t) (equal e u) = ap (λ (b : Bool). cond b 1 (but (incrementWord G h) v w y)) t ∙ ap (λ (b : Bool). cond b w (incrementWord G h y)) u ∙ sym (ap (incrementWord G later) e ∙ word-parent)
+    word-else y (other ne t) (other nv u) = rw (t, u, ne-eqb v y (λ e. nv (sym e)))
+
+    increment-tree : put 0 (put 0 (incrementLeft G h area) v w) x 1 ≡ incrementLeft G later area
+    increment-tree =
+        ap (λ (l : List ℕ). put 0 l x 1) (put-filled (incrementWord G h) (G .size) area v w (hv .0) (hv .1))
+        ∙ put-filled (but (incrementWord G h) v w) (G .size) area x 1 (hx .0) (hx .1)
+        ∙ ap (λ (l : List ℕ). l ++ drop (G .size) area) (values-same (but (but (incrementWord G h) v w) x 1) (incrementWord G later) 0 (G .size) (λ y p q. word-else y (compare y x) (compare y v)))
+
+-- The start labelled.
+increment-first : (G : Graph) (area : List ℕ) (start : ℕ) → Vertex (G .size) start → (Mem 0 (G .out start) → ⊥) → put 0 (cleared (G .size) area) start 1 ≡ incrementLeft G ([] ▸ event label 0 start) area
+increment-first G area start hs null =
+    ap (λ (l : List ℕ). put 0 l start 1) (cleared-filled (G .size) area)
+    ∙ put-filled (λ x. 0) (G .size) area start 1 (hs .0) (hs .1)
+    ∙ ap (λ (l : List ℕ). l ++ drop (G .size) area) (values-same (but (λ x. 0) start 1) (incrementWord G ([] ▸ event label 0 start)) 0 (G .size) (λ y p q. word y (compare y start)))
+  where
+    one : incrementWord G ([] ▸ event label 0 start) start ≡ 1
+    one = rw (eq-eqb start start refl, rank-none 0 (reverse (G .out start)) (λ m. null (mem-reverse (G .out start) 0 .0 m)))
+
+    word : (y : ℕ) → Compared y start → but (λ x. 0) start 1 y ≡ incrementWord G ([] ▸ event label 0 start) y
+    word y (equal e t) = ap (λ (b : Bool). cond b 1 0) t ∙ sym (ap (incrementWord G ([] ▸ event label 0 start)) e ∙ one)
+    word y (other ne t) = rw t
+
+-- ---- the last tree edge out of each vertex
+last-own : (h : History) (r v x : ℕ) → lastFrom (h ▸ event advance-tree r v ▸ event label 0 x) v ≡ r
+last-own h r v x = ap (λ (b : Bool). (cond b (r, v) (lastTree (λ y z. eqb z v) h)) .0) (eq-eqb v v refl)
+
+last-other : (h : History) (r v x u : ℕ) → v ≢ u → lastFrom (h ▸ event advance-tree r v ▸ event label 0 x) u ≡ lastFrom h u
+last-other h r v x u ne = ap (λ (b : Bool). (cond b (r, v) (lastTree (λ y z. eqb z u) h)) .0) (ne-eqb v u ne)
+
+-- No tree edge leaves a vertex that is not labelled.
+last-none : (h : History) (x : ℕ) → AllTrees (λ r u. Mem u (labelled h)) h → (Mem x (labelled h) → ⊥) → lastFrom h x ≡ 0
+last-none h x trees new = ap (λ (p : ℕ × ℕ). p .0) (no-tree (λ r u. eqb u x) h (all-trees (λ r u m. ne-eqb u x (λ e. new (subst (λ (y : ℕ). Mem y (labelled h)) e m))) h trees))
+
+-- The path keeps its last tree edges.
+left-keep : (h i : History) (s : List Frame) → ((u : ℕ) → Mem u (path s) → lastFrom i u ≡ lastFrom h u) → Left h s → Left i s
+left-keep h i [] k l = tt
+left-keep h i (frame u du r ru ∷ s) k l = (k u (here refl) ∙ l .0, left-keep h i s (λ x m. k x (there m)) (l .1))
+
+-- ---- words by position
+first-put : (l : List ℕ) (v w : ℕ) → put 0 l v w ≡ set l (v - 1) w
+unfolding put
+first-put l v w = refl
+
+tail-at : (n : ℕ) (l : List ℕ) (e : ℕ) → at n l (n + e) ≡ getD l (e - 1) 0
+unfolding at
+tail-at n l e = let z : n + e - suc n ≡ e - 1 = omega arith in ap (λ (i : ℕ). getD l i 0) z
+
+tail-put : (n : ℕ) (l : List ℕ) (e w : ℕ) → put n l (n + e) w ≡ set l (e - 1) w
+unfolding put
+tail-put n l e w = let z : n + e - suc n ≡ e - 1 = omega arith in ap (λ (i : ℕ). set l i w) z
+
+-- ---- frames
+-- Frames of which there is one.
+record Framed (s : List Frame) : Type 0 where
+  u : ℕ
+  du : List ℕ
+  r : ℕ
+  ru : List ℕ
+  below : List Frame
+  is : s ≡ frame u du r ru ∷ below
+
+framed : (s : List Frame) → parent s ≢ 0 → Framed s
+framed [] ne = absurd (ne refl)
+framed (frame u du r ru ∷ s) ne = record { u = u; du = du; r = r; ru = ru; below = s; is = refl }
+
+unframed : (G : Graph) (start : ℕ) (s : List Frame) (v : ℕ) → Above G start s v → parent s ≡ 0 → s ≡ []
+unframed G start [] v up e = refl
+unframed G start (frame u du r ru ∷ s) v up e = absurd (let hu = up .1 in omega arith)
+
+-- ---- at a place
+-- The numbers at a place.
+pub record Within (a : ArrayForm) (tails increments : List ℕ) (p : Place) : Type 0 where
+  pub few-vertices : a .n ≤ 1000
+  pub few-edges : a .m ≤ 4000
+  pub long-firsts : a .n < length (a .firsts)
+  pub long-tails : a .m ≤ length tails
+  pub long-increments : a .n ≤ length increments
+  pub low-vertex : 1 ≤ p .v
+  pub high-vertex : p .v ≤ a .n
+  pub low : 1 ≤ p .e
+  pub from : getD (a .firsts) (p .v - 1) 0 ≤ p .e
+  pub up-to : p .e ≤ getD (a .firsts) (p .v) 0
+
+-- The numbers where an edge is ahead: its position is one, and its tail a vertex.
+pub record Tail (a : ArrayForm) (tails : List ℕ) (p : Place) : Type 0 where
+  pub high : p .e ≤ a .m
+  pub low-tail : 1 ≤ getD tails (p .e - 1) 0
+  pub high-tail : getD tails (p .e - 1) 0 ≤ a .n
+  pub few : 2 + total (p .tally) ≤ 10000
+
+-- The numbers where v is left along a tree edge: its parent is a vertex, and the edge has a position.
+pub record Back (a : ArrayForm) (increments : List ℕ) (p : Place) : Type 0 where
+  pub low-parent : 1 ≤ p .f
+  pub high-parent : p .f ≤ a .n
+  pub some : 1 ≤ getD increments (p .f - 1) 0
+  pub low : 1 ≤ getD (a .firsts) (p .f - 1) 0 + getD increments (p .f - 1) 0 - 1
+  pub high : getD (a .firsts) (p .f - 1) 0 + getD increments (p .f - 1) 0 - 1 ≤ a .m
+  pub few : 2 + total (p .tally) ≤ 10000
+
+module _ {a : ArrayForm} {start : ℕ} {marks₀ increments₀ events₀ tails marks increments events : List ℕ} {p : Place} (A : ArrayAt a start marks₀ increments₀ events₀ tails marks increments events p) where
+  abbrev G : Graph
+  G = arrayGraph a
+
+  vertex : Vertex (a .n) (p .v)
+  vertex = A .underway .scene .placed .vertex
+
+  tails-same : length tails ≡ length (a .tails)
+  tails-same = ap length (A .bent) ∙ tails-length (λ du fs. parent fs) (a .n) (a .tails) (A .s)
+
+  increments-same : length increments ≡ length increments₀
+  increments-same = ap length (A .increments-left) ∙ length-filled (incrementWord G (A .h)) (a .n) increments₀ (A .long)
+
+  pub within : Within a tails increments p
+  within =
+      let S = A .sound in
+      let hv = vertex in
+      let l = A .low in
+      let g = A .high in
+      let one = S .from-one (p .v) (hv .0) (omega arith) in
+      record {
+        few-vertices = S .few-vertices;
+        few-edges = S .few-edges;
+        long-firsts = omega (arith, S .long-firsts);
+        long-tails = omega (arith, S .long-tails, tails-same);
+        long-increments = omega (arith, A .long, increments-same);
+        low-vertex = hv .0;
+        high-vertex = hv .1;
+        low = omega arith;
+        from = omega (arith, read-at (a .firsts) (p .v));
+        up-to = omega (arith, word-here (a .firsts) (p .v));
+      }
+
+  -- The word of a vertex in the increment area.
+  increment-is : (x : ℕ) → getD increments (x - 1) 0 ≡ at 0 (incrementLeft G (A .h) increments₀) x
+  increment-is x = sym (read-at increments x) ∙ ap (λ (l : List ℕ). at 0 l x) (A .increments-left)
+
+  -- ---- along an edge
+  module _ (more : p .e < at 0 (a .firsts) (suc (p .v))) where
+    abbrev r : ℕ
+    r = a .n + p .e
+
+    -- The vertex that it leads to, as the code reads it.
+    abbrev x : ℕ
+    x = getD tails (p .e - 1) 0
+
+    on : Underway G (a .n + a .m) start (A .h) (p .v) (A .done) (r ∷ ahead a (p .v) (suc (p .e))) (A .s) marks₀ events₀ marks events (p .tally)
+    on = subst (λ (l : List ℕ). Underway G (a .n + a .m) start (A .h) (p .v) (A .done) l (A .s) marks₀ events₀ marks events (p .tally)) (ahead-next a (p .v) (p .e) (within .low) more) (A .underway)
+
+    leads : G .to r ≡ x
+    leads =
+        let P = on .scene .placed in
+        sym (tails-kept (array-owned a (A .sound)) (λ du fs. parent fs) (a .tails) start (A .s) (p .v) (p .v) r (P .above) vertex (scene-edge G start (on .scene)) (P .distinct .0))
+        ∙ ap (λ (l : List ℕ). at (a .n) l r) (sym (A .bent))
+        ∙ tail-at (a .n) tails (p .e)
+
+    target : Vertex (a .n) x
+    target = subst (Vertex (a .n)) leads (moves.target-vertex on)
+
+    pub tail : Tail a tails p
+    tail =
+        let w = within in
+        let top = A .sound .from-one (suc (p .v)) (omega arith) (omega arith) in
+        record { high = omega (arith, more); low-tail = target .0; high-tail = target .1; few = moves.ahead-few on }
+
+    -- It leads to a labelled vertex: on to the next position.
+    module _ {t₁ events₁ t₂ events₂ : List ℕ} (one : Emits 3 (a .n + p .e) (p .v) events (p .tally) events₁ t₁) (two : Emits 4 (a .n + p .e) (p .v) events₁ t₁ events₂ t₂) where
+      pub nontree-words : total t₂ ≡ 2 + total (p .tally)
+      nontree-words = moves.pass-total on one two
+
+      pub nontree-move : getD increments (getD tails (p .e - 1) 0 - 1) 0 ≢ 0 → ArrayAt a start marks₀ increments₀ events₀ tails marks increments events₂ (record { v = p .v; e = p .e + 1; f = p .f; tally = t₂ })
+      nontree-move ne =
+          let i : History = A .h ▸ event advance-nontree r (p .v) ▸ event retreat-nontree r (p .v) in
+          let m : memb x (labelled (A .h)) ≡ true = increment-some G (A .h) increments₀ x target (λ e. ne (increment-is x ∙ e)) in
+          let l = A .low in
+          let z : suc (p .e) ≡ p .e + 1 = omega arith in
+          record {
+            sound = A .sound;
+            long = A .long;
+            h = i;
+            done = r ∷ A .done;
+            s = A .s;
+            underway = subst (λ (e : ℕ). Underway G (a .n + a .m) start i (p .v) (r ∷ A .done) (ahead a (p .v) e) (A .s) marks₀ events₀ marks events₂ t₂) z (moves.pass-goes on one two (ap (λ (k : ℕ). memb k (labelled (A .h))) leads ∙ m));
+            low = omega arith;
+            high = omega (arith, more);
+            trailer = A .trailer;
+            left = left-keep (A .h) i (A .s) (λ u k. refl) (A .left);
+            increments-left = A .increments-left;
+            bent = A .bent;
+          }
+
+    -- It leads to an unlabelled vertex: that is labelled, and scanned next.
+    module _ {t₁ events₁ t₂ marks₂ events₂ : List ℕ} (one : Emits 2 (a .n + p .e) (p .v) events (p .tally) events₁ t₁) (two : Puts (getD tails (p .e - 1) 0) marks events₁ t₁ marks₂ events₂ t₂) where
+      pub tree-words : total t₂ ≡ 2 + total (p .tally)
+      tree-words = moves.tree-total on one x leads two
+
+      pub tree-move : getD increments (getD tails (p .e - 1) 0 - 1) 0 ≡ 0 → ArrayAt a start marks₀ increments₀ events₀ (set tails (p .e - 1) (p .f)) marks₂ (set (set increments (p .v - 1) (p .e - getD (a .firsts) (p .v - 1) 0 + 1)) (getD tails (p .e - 1) 0 - 1) 1) events₂ (record { v = getD tails (p .e - 1) 0; e = getD (a .firsts) (getD tails (p .e - 1) 0 - 1) 0; f = p .v; tally = t₂ })
+      tree-move zero-word =
+          let i : History = A .h ▸ event advance-tree r (p .v) ▸ event label 0 x in
+          let s : List Frame = frame (p .v) (A .done) r (ahead a (p .v) (suc (p .e))) ∷ A .s in
+          let hx = target in
+          let S = A .underway .scene in
+          let seen : Mem (p .v) (labelled (A .h)) = S .seen (p .v) (here refl) in
+          let m : memb x (labelled (A .h)) ≡ false = increment-zero G (A .h) increments₀ x hx (sym (increment-is x) ∙ zero-word) in
+          let new : Mem x (labelled (A .h)) → ⊥ = memb-false x (labelled (A .h)) m in
+          let w : ℕ = p .e - getD (a .firsts) (p .v - 1) 0 + 1 in
+          let rise = A .sound .rising x (suc x) (hx .0) (omega arith) (omega arith) in
+          let is : rank r (reverse (G .out (p .v))) ≡ w = omega (arith, edge-rank a (A .sound) (p .v) (p .e) vertex (A .low) more, read-at (a .firsts) (p .v)) in
+          record {
+            sound = A .sound;
+            long = A .long;
+            h = i;
+            done = [];
+            s = s;
+            underway = subst (λ (e : ℕ). Underway G (a .n + a .m) start i x [] (ahead a x e) s marks₀ events₀ marks₂ events₂ t₂) (read-at (a .firsts) x) (moves.tree-goes on one x leads two m);
+            low = omega (arith, read-at (a .firsts) x);
+            high = omega (arith, read-at (a .firsts) x);
+            trailer = refl;
+            left = (last-own (A .h) r (p .v) x, left-keep (A .h) i (A .s) (λ u k. last-other (A .h) r (p .v) x u (λ e. S .placed .distinct .0 (subst (λ (z : ℕ). Mem z (path (A .s))) (sym e) k))) (A .left));
+            increments-left =
+                sym (first-put (set increments (p .v - 1) w) x 1)
+                ∙ ap (λ (l : List ℕ). put 0 l x 1) (sym (first-put increments (p .v) w) ∙ ap (λ (l : List ℕ). put 0 l (p .v) w) (A .increments-left))
+                ∙ increment-tree G (A .h) increments₀ (p .v) r x vertex hx seen new (last-none (A .h) x (A .underway .trees) new) (not-null a (A .sound) x hx) w (omega arith) is;
+            bent = sym (tail-put (a .n) tails (p .e) (p .f)) ∙ (λ j. put (a .n) (A .bent j) r (A .trailer j));
+          }
+
+  -- ---- no edge ahead
+  module _ (end : p .e ≡ at 0 (a .firsts) (suc (p .v))) where
+    done-at : Underway G (a .n + a .m) start (A .h) (p .v) (A .done) [] (A .s) marks₀ events₀ marks events (p .tally)
+    done-at = subst (λ (l : List ℕ). Underway G (a .n + a .m) start (A .h) (p .v) (A .done) l (A .s) marks₀ events₀ marks events (p .tally)) (ahead-none a (p .v) (p .e) end) (A .underway)
+
+    -- Back along a tree edge.
+    module _ (child : p .f ≢ 0) where
+      F : Framed (A .s)
+      F = framed (A .s) (λ e. child (A .trailer ∙ e))
+
+      abbrev u : ℕ
+      u = F .u
+
+      behind : Underway G (a .n + a .m) start (A .h) (p .v) (A .done) [] (frame u (F .du) (F .r) (F .ru) ∷ F .below) marks₀ events₀ marks events (p .tally)
+      behind = subst (λ (s : List Frame). Underway G (a .n + a .m) start (A .h) (p .v) (A .done) [] s marks₀ events₀ marks events (p .tally)) (F .is) done-at
+
+      is-parent : p .f ≡ u
+      is-parent = A .trailer ∙ ap parent (F .is)
+
+      parent-vertex : Vertex (a .n) u
+      parent-vertex = behind .scene .placed .above .1
+
+      left-back : Left (A .h) (frame u (F .du) (F .r) (F .ru) ∷ F .below)
+      left-back = subst (Left (A .h)) (F .is) (A .left)
+
+      stand : Stands a u (F .r) (F .ru)
+      stand = stands a (A .sound) u (F .r) (F .du) (F .ru) parent-vertex (behind .scene .placed .above .2)
+
+      bent-back : tails ≡ put (a .n) (tailsLeft a (F .below)) (F .r) (parent (F .below))
+      bent-back = A .bent ∙ ap (tailsLeft a) (F .is)
+
+      -- The parent's increment is the place of its last tree edge.
+      word-back : getD increments (p .f - 1) 0 ≡ suc (stand .p - at 0 (a .firsts) u)
+      word-back =
+          let R : rank (F .r) (reverse (G .out u)) ≡ suc (stand .p - at 0 (a .firsts) u) = ap (λ (k : ℕ). rank k (reverse (G .out u))) (stand .named) ∙ edge-rank a (A .sound) u (stand .p) parent-vertex (stand .low) (stand .high) in
+          let seen : memb u (labelled (A .h)) ≡ true = mem-memb (behind .scene .seen u (there (here refl))) in
+          let w : incrementWord G (A .h) u ≡ suc (stand .p - at 0 (a .firsts) u) = rw (seen, left-back .0, R) (omega arith) in
+          increment-is (p .f) ∙ ap (at 0 (incrementLeft G (A .h) increments₀)) is-parent ∙ increment-at G (A .h) increments₀ u parent-vertex ∙ w
+
+      -- So its position is found.
+      position : getD (a .firsts) (p .f - 1) 0 + getD increments (p .f - 1) 0 - 1 ≡ stand .p
+      position =
+          let O = stand in
+          omega (arith, word-back, sym (read-at (a .firsts) (p .f)) ∙ ap (at 0 (a .firsts)) is-parent)
+
+      pub back : Back a increments p
+      back =
+          let O = stand in
+          let w = parent-vertex in
+          let q = is-parent in
+          let one = A .sound .from-one u (w .0) (omega arith) in
+          let top = A .sound .from-one (suc u) (omega arith) (omega arith) in
+          let e = position in
+          record { low-parent = omega arith; high-parent = omega arith; low = omega arith; high = omega arith; some = omega (arith, word-back); few = moves.back-few behind }
+
+      module _ {t₁ events₁ t₂ events₂ : List ℕ} (one : Emits 6 0 (p .v) events (p .tally) events₁ t₁) where
+        back-at : Emits 5 (F .r) u events₁ t₁ events₂ t₂ → ArrayAt a start marks₀ increments₀ events₀ (set tails (stand .p - 1) (p .v)) marks increments events₂ (record { v = u; e = stand .p + 1; f = getD tails (stand .p - 1) 0; tally = t₂ })
+        back-at two =
+            let O = stand in
+            let P = behind .scene .placed in
+            let q : ℕ = O .p in
+            let i : History = A .h ▸ event scan 0 (p .v) ▸ event retreat-tree (F .r) u in
+            let z : suc q ≡ q + 1 = omega arith in
+            let edge : Mem (F .r) (G .out u) = of-rest G u (F .du) (F .r ∷ F .ru) (P .above .2) (F .r) (here refl) in
+            let er = array-owned a (A .sound) .edge u (F .r) parent-vertex edge in
+            let old : List ℕ = tailsLeft a (F .below) in
+            let straight : at (a .n) old (F .r) ≡ p .v = tails-kept (array-owned a (A .sound)) (λ du fs. parent fs) (a .tails) start (F .below) u u (F .r) (P .above .3) parent-vertex edge (P .distinct .1 .0) ∙ P .above .0 in
+            record {
+              sound = A .sound;
+              long = A .long;
+              h = i;
+              done = F .r ∷ F .du;
+              s = F .below;
+              underway = subst (λ (l : List ℕ). Underway G (a .n + a .m) start i u (F .r ∷ F .du) l (F .below) marks₀ events₀ marks events₂ t₂) (O .next ∙ ap (ahead a u) z) (moves.back-goes behind one two);
+              low = omega arith;
+              high = omega arith;
+              trailer =
+                  sym (tail-at (a .n) tails q)
+                  ∙ (λ j. at (a .n) (bent-back j) (sym (O .named) j))
+                  ∙ at-put (a .n) old (F .r) (parent (F .below)) (er .0) (omega (arith, er .1, tails-length (λ du fs. parent fs) (a .n) (a .tails) (F .below), A .sound .long-tails));
+              left = left-keep (A .h) i (F .below) (λ y k. refl) (left-back .1);
+              increments-left = A .increments-left;
+              bent =
+                  sym (tail-put (a .n) tails q (p .v))
+                  ∙ (λ j. put (a .n) (bent-back j) (sym (O .named) j) (p .v))
+                  ∙ put-put (a .n) old (F .r) (parent (F .below)) (p .v)
+                  ∙ ap (put (a .n) old (F .r)) (sym straight)
+                  ∙ put-at (a .n) old (F .r);
+            }
+
+        -- Position e and the parent, as the code has them.
+        module _ (e : ℕ) (is : e ≡ getD (a .firsts) (p .f - 1) 0 + getD increments (p .f - 1) 0 - 1) (two : Emits 5 (a .n + e) (p .f) events₁ t₁ events₂ t₂) where
+          found : _≡_ {A = ℕ × ℕ} (stand .p, u) (e, p .f)
+          found = λ j. (sym (is ∙ position) j, sym is-parent j)
+
+          two-back : Emits 5 (F .r) u events₁ t₁ events₂ t₂
+          two-back = subst (λ (k : ℕ). Emits 5 k u events₁ t₁ events₂ t₂) (sym (stand .named)) (subst (λ (k : ℕ × ℕ). Emits 5 (a .n + k .0) (k .1) events₁ t₁ events₂ t₂) (sym found) two)
+
+          pub back-words : total t₂ ≡ 2 + total (p .tally)
+          back-words = moves.back-total behind one two-back
+
+          pub back-move : ArrayAt a start marks₀ increments₀ events₀ (set tails (e - 1) (p .v)) marks increments events₂ (record { v = p .f; e = e + 1; f = getD tails (e - 1) 0; tally = t₂ })
+          back-move = subst (λ (k : ℕ × ℕ). ArrayAt a start marks₀ increments₀ events₀ (set tails (k .0 - 1) (p .v)) marks increments events₂ (record { v = k .1; e = k .0 + 1; f = getD tails (k .0 - 1) 0; tally = t₂ })) found (back-at two-back)
+
+    -- The start is being scanned.
+    module _ (root : p .f ≡ 0) where
+      none : A .s ≡ []
+      none = unframed G start (A .s) (p .v) (A .underway .scene .placed .above) (sym (A .trailer) ∙ root)
+
+      bottom : Underway G (a .n + a .m) start (A .h) (p .v) (A .done) [] [] marks₀ events₀ marks events (p .tally)
+      bottom = subst (λ (s : List Frame). Underway G (a .n + a .m) start (A .h) (p .v) (A .done) [] s marks₀ events₀ marks events (p .tally)) none done-at
+
+      -- Its scan is the last event.
+      pub ended : {t₁ events₁ : List ℕ} → Emits 6 0 start events (p .tally) events₁ t₁ → Ended a start marks₀ increments₀ events₀ tails marks increments events₁ t₁
+      ended w = record { held = moves.end-held bottom w; increments-left = A .increments-left ∙ ap (λ (i : History). incrementLeft G i increments₀) (moves.end-is bottom); tails-left = A .bent ∙ ap (tailsLeft a) none }
+
+-- ---- the start
+module _ {a : ArrayForm} {start : ℕ} {marks increments events : List ℕ} (C : CanSearch a start marks increments events) where
+  pub begun : {marks₁ increments₁ events₁ t₁ : List ℕ} → increments₁ ≡ cleared (min (a .n) (length increments)) increments → Starts (a .n + a .m) start marks events marks₁ events₁ t₁ → ArrayAt a start marks increments events (a .tails) marks₁ (set increments₁ (start - 1) 1) events₁ (record { v = start; e = getD (a .firsts) (start - 1) 0; f = 0; tally = t₁ })
+  begun {marks₁} {increments₁} {events₁} {t₁} c w =
+      let G : Graph = arrayGraph a in
+      let hs = C .start-vertex in
+      let rise = C .sound .rising start (suc start) (hs .0) (omega arith) (omega arith) in
+      record {
+        sound = C .sound;
+        long = C .long;
+        h = [] ▸ event label 0 start;
+        done = [];
+        s = [];
+        underway = subst (λ (e : ℕ). Underway G (a .n + a .m) start ([] ▸ event label 0 start) start [] (ahead a start e) [] marks events marks₁ events₁ t₁) (read-at (a .firsts) start) (moves.begun (array-ready a (C .sound) start hs) (omega arith) (C .roomy) w);
+        low = omega (arith, read-at (a .firsts) start);
+        high = omega (arith, read-at (a .firsts) start);
+        trailer = refl;
+        left = tt;
+        increments-left =
+            sym (first-put increments₁ start 1)
+            ∙ ap (λ (l : List ℕ). put 0 l start 1) (c ∙ all-cleared (a .n) increments (C .long))
+            ∙ increment-first G increments start hs (not-null a (C .sound) start hs);
+        bent = refl;
+      }
+
+-- ---- from place to place
+-- Whatever areas were lent, the search goes on from one place to another.
+abbrev pub Onward : (n m start : ℕ) (firsts tails marks increments events : List ℕ) (p : Place) (tails₁ marks₁ increments₁ events₁ : List ℕ) (q : Place) → Type 0
+Onward n m start firsts tails marks increments events p tails₁ marks₁ increments₁ events₁ q = (tails₀ marks₀ increments₀ events₀ : List ℕ) → ArrayAt (arrayIn n m firsts tails₀) start marks₀ increments₀ events₀ tails marks increments events p → ArrayAt (arrayIn n m firsts tails₀) start marks₀ increments₀ events₀ tails₁ marks₁ increments₁ events₁ q
+
+pub some-onward : {n m start : ℕ} {firsts tails marks increments events : List ℕ} {p : Place} {tails₁ marks₁ increments₁ events₁ : List ℕ} {q : Place} → SomeArrayAt n m start firsts tails marks increments events p → Onward n m start firsts tails marks increments events p tails₁ marks₁ increments₁ events₁ q → SomeArrayAt n m start firsts tails₁ marks₁ increments₁ events₁ q
+some-onward S o = record { tails₀ = S .tails₀; marks₀ = S .marks₀; increments₀ = S .increments₀; events₀ = S .events₀; is = o (S .tails₀) (S .marks₀) (S .increments₀) (S .events₀) (S .is) }
+
+pub some-at : {n m start : ℕ} {firsts tails₀ marks₀ increments₀ events₀ tails marks increments events : List ℕ} {p : Place} → ArrayAt (arrayIn n m firsts tails₀) start marks₀ increments₀ events₀ tails marks increments events p → SomeArrayAt n m start firsts tails marks increments events p
+some-at {tails₀ = tails₀} {marks₀ = marks₀} {increments₀ = increments₀} {events₀ = events₀} A = record { tails₀ = tails₀; marks₀ = marks₀; increments₀ = increments₀; events₀ = events₀; is = A }
+
+-- The areas keep their lengths.
+pub record Long (tails₀ marks₀ increments₀ events₀ tails marks increments events : List ℕ) : Type 0 where
+  pub tails-long : length tails ≡ length tails₀
+  pub marks-long : length marks ≡ length marks₀
+  pub increments-long : length increments ≡ length increments₀
+  pub events-long : length events ≡ length events₀
+
+lengths : {a : ArrayForm} {start : ℕ} {marks₀ increments₀ events₀ tails marks increments events : List ℕ} {p : Place} → ArrayAt a start marks₀ increments₀ events₀ tails marks increments events p → Long (a .tails) marks₀ increments₀ events₀ tails marks increments events
+lengths A = let l = moves.move-lengths (A .underway) in record { tails-long = tails-same A; marks-long = l .0; increments-long = increments-same A; events-long = l .1 }
+
+pub kept : {n m start : ℕ} {firsts tails marks increments events : List ℕ} {p : Place} {tails₁ marks₁ increments₁ events₁ : List ℕ} {q : Place} → SomeArrayAt n m start firsts tails marks increments events p → Onward n m start firsts tails marks increments events p tails₁ marks₁ increments₁ events₁ q → Long tails marks increments events tails₁ marks₁ increments₁ events₁
+kept S o =
+    let x = lengths (S .is) in
+    let y = lengths (o (S .tails₀) (S .marks₀) (S .increments₀) (S .events₀) (S .is)) in
+    record { tails-long = y .tails-long ∙ sym (x .tails-long); marks-long = y .marks-long ∙ sym (x .marks-long); increments-long = y .increments-long ∙ sym (x .increments-long); events-long = y .events-long ∙ sym (x .events-long) }
+
+-- An edge is ahead of v, or none.
+pub is-ahead : (firsts : List ℕ) (v e : ℕ) → e < getD firsts v 0 → e < at 0 firsts (suc v)
+is-ahead firsts v e l = omega (arith, word-here firsts v)
+
+pub is-done : (firsts : List ℕ) (v e : ℕ) → e ≤ getD firsts v 0 → getD firsts v 0 ≤ e → e ≡ at 0 firsts (suc v)
+is-done firsts v e l g = omega (arith, word-here firsts v)

@@ -1,0 +1,69 @@
+-- The search over the array form: the tails as a function of the place, and what its moves ask of each other.
+use mathlib.Core.Path.{_≡_}
+use mathlib.Core.List.{List, [], _∷_}
+use Prim.Native.Nat.{ℕ, suc, _+_, _-_, _≤_}
+use lib.Dec.{eqb}
+use lib.ListN.{length}
+use Rattle.lists.specs.Words.{at, valuesFrom}
+use Rattle.graphs.specs.Events.{History}
+use Rattle.graphs.specs.ArrayForm.{ArrayForm, arrayGraph}
+use Rattle.graphs.specs.Results.{lastTree, incrementLeft}
+use Rattle.graphs.proofs.ArraySound.{ArraySound}
+use Rattle.graphs.proofs.Places.{Frame, frame, parent}
+use Rattle.graphs.proofs.Tails.{bentTails}
+use Rattle.images.specs.Arrays.{arrayIn}
+use Rattle.walks.specs.declared.place.Place.{Place}
+use Rattle.walks.specs.Promises.{arrayWalk}
+use Rattle.walks.specs.Writing.{Held}
+use Rattle.walks.specs.Moves.{Underway}
+use Rattle.walks.proofs.ArrayBegins.{ArrayBegins}
+
+-- The edges of v from position e on.
+abbrev pub ahead : ArrayForm → ℕ → ℕ → List ℕ
+ahead a v e = valuesFrom (λ x. a .n + x) (e - 1) (at 0 (a .firsts) (suc v) - e)
+
+-- The tail of each tree edge under way holds the parent of the vertex that the edge leaves.
+abbrev pub tailsLeft : ArrayForm → List Frame → List ℕ
+tailsLeft a s = bentTails (λ du fs. parent fs) (a .n) (a .tails) s
+
+-- The last tree edge out of u; 0 where there is none.
+abbrev pub lastFrom : History → ℕ → ℕ
+lastFrom h u = lastTree (λ x y. eqb y u) h .0
+
+-- The last tree edge out of each vertex on the path is the one of its frame.
+abbrev pub Left : History → List Frame → Type 0
+Left h [] = Unit {0}
+Left h (frame u du r ru ∷ s) = (lastFrom h u ≡ r) × Left h s
+
+-- The search can begin.
+abbrev pub CanSearch : (a : ArrayForm) (start : ℕ) (marks increments events : List ℕ) → Type 0
+CanSearch a start marks increments events = ArrayBegins a start marks increments events
+
+-- At a place: the edges ahead begin with position e, the trailer is the parent of v, and tails and increments are those that the events so far
+-- leave.
+pub record ArrayAt (a : ArrayForm) (start : ℕ) (marks₀ increments₀ events₀ tails marks increments events : List ℕ) (p : Place) : Type 0 where
+  pub sound : ArraySound a
+  pub long : a .n ≤ length increments₀
+  pub h : History
+  pub done : List ℕ
+  pub s : List Frame
+  pub underway : Underway (arrayGraph a) (a .n + a .m) start h (p .v) done (ahead a (p .v) (p .e)) s marks₀ events₀ marks events (p .tally)
+  pub low : at 0 (a .firsts) (p .v) ≤ p .e
+  pub high : p .e ≤ at 0 (a .firsts) (suc (p .v))
+  pub trailer : p .f ≡ parent s
+  pub left : Left h s
+  pub increments-left : increments ≡ incrementLeft (arrayGraph a) h increments₀
+  pub bent : tails ≡ tailsLeft a s
+
+pub record SomeArrayAt (n m start : ℕ) (firsts tails marks increments events : List ℕ) (p : Place) : Type 0 where
+  pub tails₀ : List ℕ
+  pub marks₀ : List ℕ
+  pub increments₀ : List ℕ
+  pub events₀ : List ℕ
+  pub is : ArrayAt (arrayIn n m firsts tails₀) start marks₀ increments₀ events₀ tails marks increments events p
+
+-- It has ended.
+pub record Ended (a : ArrayForm) (start : ℕ) (marks₀ increments₀ events₀ tails marks increments events t : List ℕ) : Type 0 where
+  pub held : Held (a .n + a .m) (arrayWalk a start) marks₀ events₀ marks events t
+  pub increments-left : increments ≡ incrementLeft (arrayGraph a) (arrayWalk a start) increments₀
+  pub tails-left : tails ≡ a .tails

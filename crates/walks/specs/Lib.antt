@@ -1,0 +1,5 @@
+-- What the walkers promise.
+pub mod Promises
+-- What every walk writes; the moves of a walk without recursion.
+pub mod Writing
+pub mod Moves

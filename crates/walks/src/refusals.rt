@@ -1,0 +1,93 @@
+// The number with which a walk is refused, else 0: 1, 2, 3 for all areas, and 4 come before what the words of the image show.
+ghost use mathlib.Core.Path.{_≡_};
+ghost use mathlib.Core.Bool.{not};
+ghost use mathlib.Core.List.{List};
+ghost use Rattle.graphs.specs.Refusals.{Lent, short};
+ghost use Rattle.images.specs.Checking.{image};
+ghost use Rattle.images.specs.Arrays.{arrayIn};
+ghost use Rattle.walks.specs.Promises.{walkNumber, arrayWalkNumber};
+
+// The number of a walk of a linked image; `long` where the areas of the walk's own are as long as stated.
+pub fn walk_number(
+    n: u16,
+    m: u16,
+    start: images::Vertex,
+    after: &[u16],
+    tail: &[u16],
+    marks: &[u16],
+    events: &[u16],
+    long: bool,
+) -> u16
+    ensures { λ r. ⌜ ((own : List Lent) → long ≡ not (short own) → r ≡ walkNumber (image n m (now (after .entry)) (now (tail .entry))) (start .0) (now (marks .entry)) (now (events .entry)) own) ⌝ }
+{
+    if n == 0 {
+        return 1;
+    }
+    if n > 1000 {
+        return 1;
+    }
+    if m > 4000 {
+        return 2;
+    }
+    let nodes = n as usize + m as usize;
+    if after.len() < nodes {
+        return 3;
+    }
+    if tail.len() < m as usize {
+        return 3;
+    }
+    if marks.len() < nodes {
+        return 3;
+    }
+    if events.len() < 6 * nodes {
+        return 3;
+    }
+    if !long {
+        return 3;
+    }
+    if !images::is_vertex(n, start) {
+        return 4;
+    }
+    images::check_image(n, m, after, tail)
+}
+
+// The number of a walk of an array form.
+pub fn array_walk_number(
+    n: u16,
+    m: u16,
+    start: images::Vertex,
+    firsts: &[u16],
+    tails: &[u16],
+    marks: &[u16],
+    increments: &[u16],
+    events: &[u16],
+) -> u16
+    ensures { λ r. ⌜ r ≡ arrayWalkNumber (arrayIn n m (now (firsts .entry)) (now (tails .entry))) (start .0) (now (marks .entry)) (now (increments .entry)) (now (events .entry)) ⌝ }
+{
+    if n == 0 {
+        return 1;
+    }
+    if n > 1000 {
+        return 1;
+    }
+    if m > 4000 {
+        return 2;
+    }
+    let nodes = n as usize + m as usize;
+    if firsts.len() < n as usize + 1 {
+        return 3;
+    }
+    if tails.len() < m as usize {
+        return 3;
+    }
+    if marks.len() < nodes {
+        return 3;
+    }
+    if increments.len() < n as usize {
+        return 3;
+    }
+    if events.len() < 6 * nodes {
+        return 3;
+    }
+    images::edges_out_number(n, m, firsts, tails, start)
+}

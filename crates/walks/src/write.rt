@@ -1,0 +1,113 @@
+// What every walk writes: marks and events. The tally of the events by kind, seven counts, is passed and returned. What has no room is not
+// written, and then nothing changes.
+ghost use mathlib.Core.Path.{_≡_};
+ghost use mathlib.Core.List.{[], _∷_};
+ghost use Prim.Native.Nat.{ℕ, min};
+ghost use lib.ListN.{length};
+ghost use Rattle.lists.specs.Words.{cleared};
+ghost use Rattle.walks.specs.Writing.{total, hasRoom, tallyAfter, eventsAfter, labelTally, labelMarks, labelEvents, noEvents};
+
+// A walker's answer: the number of its refusal, else 0, and its events by kind.
+pub struct Walked {
+    pub number: u16,
+    pub tally: [u32; 7],
+}
+
+// A refused walk has emitted nothing.
+pub fn refused(k: u16) -> Walked
+    ensures number { λ r. ⌜ r .number ≡ k ⌝ }
+    ensures tally { λ r. ⌜ r .tally ≡ noEvents ⌝ }
+{
+    Walked {
+        number: k,
+        tally: [0; 7],
+    }
+}
+
+// The events tallied.
+fn count(tally: [u32; 7]) -> usize
+    ensures { λ r. ⌜ r ≡ total tally ⌝ }
+{
+    let depth = tally[0] as usize + tally[1] as usize + tally[2] as usize + tally[3] as usize;
+    depth + tally[4] as usize + tally[5] as usize + tally[6] as usize
+}
+
+// Whether one event more can be written behind those tallied, in an area of a words.
+fn has_room(kind: u16, tally: [u32; 7], a: usize) -> bool
+    ensures { λ r. ⌜ r ≡ hasRoom kind tally a ⌝ }
+{
+    if kind == 0 {
+        return false;
+    }
+    if kind > 7 {
+        return false;
+    }
+    let c = count(tally);
+    if c > 10000 {
+        return false;
+    }
+    3 * c + 3 <= a
+}
+
+// Writes one event behind those tallied, and counts it.
+pub fn emit(events: &mut [u16], kind: u16, r: u16, u: u16, tally: [u32; 7]) -> [u32; 7]
+    ensures tally { λ t. ⌜ t ≡ tallyAfter kind tally (length (now (events .entry))) ⌝ }
+    ensures events { λ t. ⌜ now (events .exit) ≡ eventsAfter kind r u tally (now (events .entry)) ⌝ }
+{
+    if !has_room(kind, tally, events.len()) {
+        return tally;
+    }
+    let at = 3 * count(tally);
+    events[at] = kind;
+    events[at + 1] = r;
+    events[at + 2] = u;
+    let k = (kind - 1) as usize;
+    let mut t = tally;
+    t[k] = t[k] + 1;
+    t
+}
+
+// Labels u with the next number, and writes that event.
+pub fn label(marks: &mut [u16], events: &mut [u16], u: u16, tally: [u32; 7]) -> [u32; 7]
+    ensures tally { λ t. ⌜ t ≡ labelTally u tally (length (now (marks .entry))) (length (now (events .entry))) ⌝ }
+    ensures marks { λ t. ⌜ now (marks .exit) ≡ labelMarks u tally (now (marks .entry)) (length (now (events .entry))) ⌝ }
+    ensures events { λ t. ⌜ now (events .exit) ≡ labelEvents u tally (length (now (marks .entry))) (now (events .entry)) ⌝ }
+{
+    if u == 0 {
+        return tally;
+    }
+    if (u as usize) > marks.len() {
+        return tally;
+    }
+    if !has_room(1, tally, events.len()) {
+        return tally;
+    }
+    let i = (u - 1) as usize;
+    marks[i] = (tally[0] + 1) as u16;
+    emit(events, 1, 0, u, tally)
+}
+
+// Clears the first k words, all where there are fewer.
+pub fn clear(area: &mut [u16], k: usize)
+    ensures { λ t. ⌜ now (area .exit) ≡ cleared (min k (length (now (area .entry)))) (now (area .entry)) ⌝ }
+{
+    let mut top = area.len();
+    if k < top {
+        top = k;
+    }
+    let mut i: usize = 0;
+    while i < top {
+        area[i] = 0;
+        i += 1;
+    }
+}
+
+// Clears the marks of all nodes, and labels the start.
+pub fn begin(marks: &mut [u16], events: &mut [u16], nodes: usize, start: u16) -> [u32; 7]
+    ensures tally { λ t. ⌜ t ≡ labelTally start noEvents (length (now (marks .entry))) (length (now (events .entry))) ⌝ }
+    ensures marks { λ t. ⌜ now (marks .exit) ≡ labelMarks start noEvents (cleared (min nodes (length (now (marks .entry)))) (now (marks .entry))) (length (now (events .entry))) ⌝ }
+    ensures events { λ t. ⌜ now (events .exit) ≡ labelEvents start noEvents (length (now (marks .entry))) (now (events .entry)) ⌝ }
+{
+    clear(marks, nodes);
+    label(marks, events, start, [0; 7])
+}
