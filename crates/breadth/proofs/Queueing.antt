@@ -7,10 +7,10 @@ use mathlib.Core.List.{List, [], _∷_, _++_, reverse, reverseAux-eq, reverseAux
 use Prim.Native.Nat.{ℕ, zero, suc, _+_, _-_, _≤_, _<_, min}
 use native.Mathlib.Numerals.{add-one}
 use native.Mathlib.Omega.{arith}
-use lib.Dec.{ltb, leb}
+use lib.Dec.{ltb}
 use lib.ListN.{length, getD, set, drop, length-append, length-reverse, List·getD-append, List·getD-eq-default}
 use lib.Seq.{getD-at}
-use borrow.Author.Tests.{ltb-true, ltb-false, le-leb, lt-leb}
+use borrow.Author.Tests.{ltb-true, ltb-false}
 use Rattle.lists.specs.Members.{here}
 use Rattle.lists.specs.Words.{at, put, cleared}
 use Rattle.lists.proofs.Tests.{Compared, equal, other, compare}
@@ -20,7 +20,7 @@ use Rattle.graphs.specs.Graph.{Graph, Closed}
 use Rattle.graphs.specs.Events.{event, label, scan, traverse, History, _▸_, labelled, scanned}
 use Rattle.graphs.specs.Image.{Image, graphOf}
 use Rattle.graphs.specs.Results.{marksLeft, eventsLeft, queueLeft}
-use Rattle.graphs.specs.Refusals.{lent, short}
+use Rattle.graphs.specs.Refusals.{lent}
 use Rattle.graphs.proofs.Labels.{labels-few}
 use Rattle.graphs.proofs.Refusals.{long}
 use Rattle.graphs.proofs.Results.{named-length}
@@ -32,7 +32,8 @@ use Rattle.walks.specs.Promises.{walkNumber, breadthWalk, tallied}
 use Rattle.walks.specs.Writing.{noEvents, total, Held}
 use Rattle.breadth.specs.Queues.{QueueAt, SomeQueueAt, QueueScanned, CanSearch, Ended}
 use Rattle.walks.proofs.Writing.{Emits, Puts, Starts, held-total, held-labels, held-lengths, all-cleared, begins, zeros-tallied}
-use Rattle.breadth.proofs.Scans.{leadsTo, first-waits, first-held, waiting-queued, waiting-labels, waiting-count, waiting-room, Ahead, Next, ahead-all, ahead-none, ahead-next, InScan, scan-few, scan-kept, scan-same, over-held, over-total, leads-vertex, crossed-total, crossed-labels, edge-pass, edge-fits, edge-join, edge-total}
+use Rattle.walks.proofs.Reading.{target}
+use Rattle.breadth.proofs.Scans.{first-waits, first-held, waiting-queued, waiting-labels, waiting-count, waiting-room, Ahead, Next, ahead-all, ahead-none, ahead-next, InScan, scan-few, scan-kept, scan-same, over-held, over-total, leads-vertex, crossed-total, crossed-labels, edge-pass, edge-fits, edge-join, edge-total}
 
 -- ---- the queue area
 -- A list with x behind it has x as its last word.
@@ -251,7 +252,7 @@ module _ {g : Image} {start v : ℕ} {marks queue events t : List ℕ} (P : Some
         I = subst (λ (l : List ℕ). InScan g start (B .h) v l (B .waits) marks₀ events₀ marks′ events′ t′) (N .is) (B .in-scan)
 
         abbrev x : ℕ
-        x = leadsTo g e
+        x = target g e
 
         scan-turn : Turn g marks′ queue′ t′ e x
         scan-turn =
@@ -325,7 +326,7 @@ module _ {g : Image} {start v : ℕ} {marks queue events t : List ℕ} (P : Some
     now : ScanAt g start v (P .i) (P .marks₀) (P .queue₀) (P .events₀) marks′ queue′ events′ t t′ e
     now = K (P .i) (P .marks₀) (P .queue₀) (P .events₀) (P .is)
 
-    pub kept-turn : e ≢ 0 → Turn g marks′ queue′ t′ e (leadsTo g e)
+    pub kept-turn : e ≢ 0 → Turn g marks′ queue′ t′ e (target g e)
     kept-turn = scan-turn P (P .is) now
 
     pub kept-lengths : (length marks′ ≡ length marks) × ((length queue′ ≡ length queue) × (length events′ ≡ length events))
@@ -334,11 +335,11 @@ module _ {g : Image} {start v : ℕ} {marks queue events t : List ℕ} (P : Some
     -- The edge e is traversed.
     module _ {events₁ t₁ : List ℕ} (ne : e ≢ 0) (one : Emits 7 e v events′ t′ events₁ t₁) where
       -- There is room in the queue for the vertex that it leads to.
-      pub kept-fits : getD marks′ (leadsTo g e - 1) 0 ≡ 0 → getD t₁ 0 0 < g .n
+      pub kept-fits : getD marks′ (target g e - 1) 0 ≡ 0 → getD t₁ 0 0 < g .n
       kept-fits = scan-fits P (P .is) now ne one
 
       -- That vertex is labelled already.
-      pub kept-pass : {marks₂ queue₂ events₂ t₂ : List ℕ} → getD marks′ (leadsTo g e - 1) 0 ≢ 0 → marks₂ ≡ marks′ → queue₂ ≡ queue′ → events₂ ≡ events₁ → t₂ ≡ t₁
+      pub kept-pass : {marks₂ queue₂ events₂ t₂ : List ℕ} → getD marks′ (target g e - 1) 0 ≢ 0 → marks₂ ≡ marks′ → queue₂ ≡ queue′ → events₂ ≡ events₁ → t₂ ≡ t₁
           → Turned g start v marks queue events t marks₂ queue₂ events₂ t′ t₂ (getD (g .after) (e - 1) 0)
       kept-pass k a b c d = record {
         is = λ i marks₀ queue₀ events₀ A. scan-as (scan-pass P A (K i marks₀ queue₀ events₀ A) ne one k) a b c d;
@@ -347,9 +348,9 @@ module _ {g : Image} {start v : ℕ} {marks queue events t : List ℕ} (P : Some
       }
 
       -- It is not: it is labelled and queued.
-      pub kept-join : {marks₁ events₃ t₃ marks₂ queue₂ events₂ t₂ : List ℕ} → getD marks′ (leadsTo g e - 1) 0 ≡ 0
-          → Puts (leadsTo g e) marks′ events₁ t₁ marks₁ events₃ t₃
-          → marks₂ ≡ marks₁ → queue₂ ≡ set queue′ (getD t₁ 0 0) (leadsTo g e) → events₂ ≡ events₃ → t₂ ≡ t₃
+      pub kept-join : {marks₁ events₃ t₃ marks₂ queue₂ events₂ t₂ : List ℕ} → getD marks′ (target g e - 1) 0 ≡ 0
+          → Puts (target g e) marks′ events₁ t₁ marks₁ events₃ t₃
+          → marks₂ ≡ marks₁ → queue₂ ≡ set queue′ (getD t₁ 0 0) (target g e) → events₂ ≡ events₃ → t₂ ≡ t₃
           → Turned g start v marks queue events t marks₂ queue₂ events₂ t′ t₂ (getD (g .after) (e - 1) 0)
       kept-join k two a b c d = record {
         is = λ i marks₀ queue₀ events₀ A. scan-as (scan-join P A (K i marks₀ queue₀ events₀ A) ne one k two) a b c d;
@@ -403,14 +404,6 @@ Leaves g start marks queue events k t marks′ queue′ events′ =
     × ((marks′ ≡ unlessRefused k (marksLeft (g .n + g .m) (breadthWalk g start) marks) marks)
     × ((queue′ ≡ unlessRefused k (queueLeft (g .n) (breadthWalk g start) queue) queue)
     × (events′ ≡ unlessRefused k (eventsLeft (breadthWalk g start) events) events))))
-
--- The queue area is as long as stated, exactly where the test says so.
-pub walk-own : (n : ℕ) (queue : List ℕ) → leb n (length queue) ≡ not (short (lent n queue ∷ []))
-walk-own n queue = go (ltb (length queue) n) refl
-  where
-    go : (b : Bool) → ltb (length queue) n ≡ b → leb n (length queue) ≡ not (short (lent n queue ∷ []))
-    go true e = rw e (lt-leb n (length queue) (ltb-true (length queue) n e))
-    go false e = rw e (le-leb n (length queue) (ltb-false (length queue) n e))
 
 module _ (g : Image) (start : ℕ) (marks queue events : List ℕ) {j : ℕ} (is : j ≡ walkNumber g start marks events (lent (g .n) queue ∷ [])) where
   -- A walk refused leaves all as it was.

@@ -23,18 +23,10 @@ use Rattle.graphs.proofs.Room.{profile-ready}
 use Rattle.graphs.proofs.Sound.{Sound, head0, Linked, graph-closed}
 use Rattle.graphs.proofs.Queues.{Waiting, Scanning, queue-first, queue-begin, queue-pass, queue-join, queue-room, queue-room-edge, queue-end}
 use Rattle.images.proofs.Arrays.{read-at}
+use Rattle.walks.proofs.Reading.{target, target-is}
 use Rattle.walks.specs.Promises.{breadthWalk}
 use Rattle.walks.specs.Writing.{total, Held, Roomy}
 use Rattle.walks.proofs.Writing.{Emits, Puts, Starts, held-total, held-labels, held-test, held-lengths, emitted, labelling, beginning}
-
--- The word of r in an area that begins with node n + 1, as the code reads it.
-read-past : (n : ℕ) (l : List ℕ) (r : ℕ) → at n l r ≡ getD l (r - n - 1) 0
-unfolding at
-read-past n l r = let e : r - suc n ≡ r - n - 1 = omega arith in ap (λ (i : ℕ). getD l i 0) e
-
--- The vertex that e leads to, as the code reads it.
-abbrev pub leadsTo : Image → ℕ → ℕ
-leadsTo g e = getD (g .tail) (e - g .n - 1) 0
 
 -- ---- vertices labelled
 -- The start is labelled, and waits.
@@ -175,10 +167,10 @@ module _ {g : Image} {start v : ℕ} {h : History} {q marks₀ events₀ marks e
   -- The edge e is ahead.
   module _ {e : ℕ} {later : List ℕ} (I : InScan g start h v (e ∷ later) q marks₀ events₀ marks events t) where
     abbrev x : ℕ
-    x = leadsTo g e
+    x = target g e
 
     leads : to g e ≡ x
-    leads = read-past (g .n) (g .tail) e
+    leads = target-is g e
 
     pub leads-vertex : Vertex (g .n) x
     leads-vertex = subst (Vertex (g .n)) leads (I .scanning .kept .targets e (here refl))

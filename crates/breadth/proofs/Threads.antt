@@ -25,7 +25,8 @@ use Rattle.walks.specs.Promises.{walkNumber, breadthWalk, tallied}
 use Rattle.walks.specs.Writing.{noEvents, total, Held}
 use Rattle.breadth.specs.Threads.{lastOf, lastNode, lastFrom, threaded, rear, Ends, FoldedAt, SomeFoldedAt, FoldedScanned, CanSearch, Ended}
 use Rattle.walks.proofs.Writing.{Emits, Puts, Starts, held-total, held-lengths, begins, zeros-tallied}
-use Rattle.breadth.proofs.Scans.{leadsTo, first-waits, first-held, waiting-queued, scanning-queued, waiting-room, InScan, scan-few, scan-kept, scan-same, over-held, over-total, leads-vertex, crossed-total, edge-pass, edge-queue, edge-join, edge-total}
+use Rattle.walks.proofs.Reading.{target}
+use Rattle.breadth.proofs.Scans.{first-waits, first-held, waiting-queued, scanning-queued, waiting-room, InScan, scan-few, scan-kept, scan-same, over-held, over-total, leads-vertex, crossed-total, edge-pass, edge-queue, edge-join, edge-total}
 
 -- ---- the last node of a list
 last-mem : (x : ℕ) (l : List ℕ) → Mem (lastOf x l) (x ∷ l)
@@ -363,7 +364,7 @@ module _ {g : Image} {start v f : ℕ} {marks₀ events₀ after₁ marks₁ eve
       is-edge = L .edges a (here refl)
 
       abbrev X : ℕ
-      X = leadsTo g a
+      X = target g a
 
       rear-vertex : Vertex (g .n) (rear v (P .q))
       rear-vertex = passing-queued .all (rear v (P .q)) (last-mem v (P .q))

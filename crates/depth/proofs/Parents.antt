@@ -1,13 +1,13 @@
 -- Laws of the search by parent edges: what each move makes of the tree edges so far, and so of the parent area.
 -- A tree advance enters a vertex that no tree edge has left yet; every other event leaves the tree edge into each vertex as it is.
 use mathlib.Core.Path.{_≡_, refl, sym, ap, _∙_, subst}
-use mathlib.Core.Bool.{Bool, true, false, not, cond, _&&_, _||_}
+use mathlib.Core.Bool.{Bool, true, false, not, cond, _&&_}
 use mathlib.Core.List.{List, [], _∷_, _++_, reverseAux}
 use Prim.Native.Nat.{ℕ, _+_, _-_, _≤_, _<_, min}
 use native.Mathlib.Omega.{arith}
-use lib.Dec.{eqb, ltb, leb}
+use lib.Dec.{eqb}
 use lib.ListN.{length, getD, set, drop}
-use borrow.Author.Tests.{eq-eqb, ne-eqb, ltb-true, ltb-false, le-leb, lt-leb, not-true, not-false}
+use borrow.Author.Tests.{eq-eqb, ne-eqb, not-true, not-false}
 use Rattle.lists.specs.Members.{Mem, here, there, memb}
 use Rattle.lists.specs.Words.{at, put, cleared}
 use Rattle.lists.proofs.Tests.{Compared, equal, other, compare}
@@ -19,7 +19,7 @@ use Rattle.graphs.specs.Events.{event, label, advance-tree, advance-nontree, re
 use Rattle.graphs.specs.Image.{Image, edgesOf, to, graphOf}
 use Rattle.graphs.specs.Results.{lastTree, entry, parentWord, parentLeft}
 use Rattle.graphs.specs.Claims.{Ready}
-use Rattle.graphs.specs.Refusals.{lent, short}
+use Rattle.graphs.specs.Refusals.{lent}
 use Rattle.graphs.proofs.Refusals.{long}
 use Rattle.graphs.proofs.Sound.{head0, Linked, Sound}
 use Rattle.graphs.proofs.Places.{Frame, frame, entering, path, Above, walk, of-rest}
@@ -30,7 +30,8 @@ use Rattle.walks.specs.Promises.{walkNumber}
 use Rattle.walks.specs.Writing.{total}
 use Rattle.depth.specs.Parents.{Entered, ParentAt, SomeParentAt, CanSearch, Ended}
 use Rattle.walks.specs.Moves.{Underway}
-use Rattle.walks.proofs.Reading.{read-word, target, target-is}
+use Rattle.images.proofs.Arrays.{read-at}
+use Rattle.walks.proofs.Reading.{target, target-is}
 use Rattle.walks.proofs.Writing.{Emits, Puts, Starts, held-test, all-cleared, begins}
 use Rattle.walks.proofs.Moves as moves
 
@@ -100,11 +101,11 @@ linked-rest after (d ∷ ds) rest h = linked-rest after ds (d ∷ rest) h .1
 module _ {g : Image} (S : Sound g) where
   -- The first edge of u, and the edge after r, as the code reads them.
   first-word : (u : ℕ) → Vertex (g .n) u → getD (g .after) (u - 1) 0 ≡ head0 (edgesOf g u)
-  first-word u hu = sym (read-word (g .after) u) ∙ S .first u hu
+  first-word u hu = sym (read-at (g .after) u) ∙ S .first u hu
 
   module _ (u r : ℕ) (done rest : List ℕ) (hu : Vertex (g .n) u) (e : edgesOf g u ≡ reverseAux done (r ∷ rest)) where
     next-word : getD (g .after) (r - 1) 0 ≡ head0 rest
-    next-word = sym (read-word (g .after) r) ∙ linked-rest (g .after) done (r ∷ rest) (subst (Linked (g .after)) e (S .linked u hu)) .0
+    next-word = sym (read-at (g .after) r) ∙ linked-rest (g .after) done (r ∷ rest) (subst (Linked (g .after)) e (S .linked u hu)) .0
 
     edge-of : Edge (g .n) (g .m) r
     edge-of = S .edge u r hu (of-rest (graphOf g) u done (r ∷ rest) e r (here refl))
@@ -193,7 +194,7 @@ module _ {g : Image} {start : ℕ} {marks₀ parents₀ events₀ marks parents 
 
     -- The mark of its target tells whether that is labelled.
     mark-test : eqb (getD marks (target g (p .e) - 1) 0) 0 ≡ not (memb (target g (p .e)) (labelled (A .h)))
-    mark-test = ap (λ (w : ℕ). eqb w 0) (sym (read-word marks (target g (p .e)))) ∙ held-test (A .underway .held) (target g (p .e)) (place-ahead .leads .0) (let b = place-ahead .leads in omega arith)
+    mark-test = ap (λ (w : ℕ). eqb w 0) (sym (read-at marks (target g (p .e)))) ∙ held-test (A .underway .held) (target g (p .e)) (place-ahead .leads .0) (let b = place-ahead .leads in omega arith)
 
     -- It leads to a labelled vertex.
     module _ {a ev : List ℕ} (one : Emits 3 (p .e) (p .v) events (p .tally) ev a) where
@@ -286,7 +287,7 @@ module _ {g : Image} {start : ℕ} {marks₀ parents₀ events₀ marks parents 
       -- The parent word of v is the trailer of the vertex that the search goes back to.
       word-back : getD parents (p .v - 1) 0 ≡ entering (top .below)
       word-back =
-          sym (read-word parents (p .v))
+          sym (read-at parents (p .v))
           ∙ ap (λ (l : List ℕ). at 0 l (p .v)) (A .parents-left)
           ∙ at-filled (parentWord (graphOf g) (A .h)) (g .n) parents₀ (p .v) (behind .scene .placed .vertex .0) (behind .scene .placed .vertex .1)
           ∙ entered-word (graphOf g) (A .h) back (p .f) (p .v) (top .passed) (top .ahead) (top .below) entered-back
@@ -396,14 +397,6 @@ pub goes-then : {g : Image} {start : ℕ} {marks parents events marks′ parents
 goes-then k l marks₀ parents₀ events₀ A = l marks₀ parents₀ events₀ (k marks₀ parents₀ events₀ A)
 
 -- ---- a walk taken
--- The test of the parent area, as the code makes it.
-pub parents-test : (n : ℕ) (parents : List ℕ) → leb n (length parents) ≡ not (short (lent n parents ∷ []))
-parents-test n parents = go (ltb (length parents) n) refl
-  where
-    go : (b : Bool) → ltb (length parents) n ≡ b → leb n (length parents) ≡ not (b || false)
-    go true e = lt-leb n (length parents) (ltb-true (length parents) n e)
-    go false e = le-leb n (length parents) (ltb-false (length parents) n e)
-
 pub can-search : (g : Image) (start : ℕ) (marks parents events : List ℕ) → walkNumber g start marks events (lent (g .n) parents ∷ []) ≡ 0 → CanSearch g start marks parents events
 can-search g start marks parents events e =
     let B = begins g start marks events (lent (g .n) parents ∷ []) e in

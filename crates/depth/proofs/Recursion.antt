@@ -21,11 +21,11 @@ use Rattle.graphs.proofs.Sound.{Sound, head0, Linked, graph-closed}
 use Rattle.graphs.proofs.DepthGrowth.{search-adds, search-labels}
 use Rattle.graphs.proofs.Places.{deep, walk, edges-add, suffix-length, can-search, deep-unroll}
 use Rattle.images.specs.Arrays.{unlessRefused}
-use Rattle.images.proofs.Arrays.{refused}
+use Rattle.images.proofs.Arrays.{read-at, refused}
 use Rattle.walks.specs.Promises.{walkNumber, depthWalk, tallied}
 use Rattle.walks.specs.Writing.{noEvents, total, Held, Roomy}
 use Rattle.depth.specs.Recursive.{searched, crossed, Searching, CanSearch, Traversing, CanTraverse}
-use Rattle.walks.proofs.Reading.{read-word, target, target-is}
+use Rattle.walks.proofs.Reading.{target, target-is}
 use Rattle.walks.proofs.Writing.{Emits, Puts, held-total, held-labels, held-test, held-lengths, emitted, labelling, held-none, all-cleared, begins, zeros-tallied}
 
 -- Room for all events is room for some of them.
@@ -89,7 +89,7 @@ module _ {g : Image} {r u : ℕ} {h : History} {marks₀ events₀ marks events 
   -- The mark that the code tests.
   mark-is : eqb (getD marks (target g r - 1) 0) 0 ≡ not (memb (to g r) (labelled h))
   mark-is =
-      ap (λ (w : ℕ). eqb w 0) (sym (read-word marks (target g r)) ∙ ap (at 0 marks) (sym (target-is g r)))
+      ap (λ (w : ℕ). eqb w 0) (sym (read-at marks (target g r)) ∙ ap (at 0 marks) (sym (target-is g r)))
       ∙ held-test (T .held) (to g r) (leads .0) (let a = leads .1 in omega arith)
 
   -- One event more.
@@ -196,7 +196,7 @@ module _ {g : Image} {u : ℕ} {h : History} {marks₀ events₀ marks events t 
     vertex = S .vertex;
     so-far = h ▸ event label 0 u;
     rest = edgesOf g u;
-    next = sym (read-word (g .after) u) ∙ S .sound .first u (S .vertex);
+    next = sym (read-at (g .after) u) ∙ S .sound .first u (S .vertex);
     links = S .sound .linked u (S .vertex);
     listed = λ x m. m;
     labels = label-ok (g .n) u (labelled h) (S .vertex) (S .fresh) (S .labels);
@@ -270,7 +270,7 @@ module _ {g : Image} {u : ℕ} {h : History} {marks₀ events₀ marks events t 
             vertex = U .vertex;
             so-far = crossed g r u (U .so-far);
             rest = N .later;
-            next = sym (read-word (g .after) r) ∙ links .0;
+            next = sym (read-at (g .after) r) ∙ links .0;
             links = links .1;
             listed = λ x m. U .listed x (subst (Mem x) (sym (N .is)) (there m));
             labels = L .0;

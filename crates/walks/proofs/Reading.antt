@@ -1,5 +1,5 @@
 -- Words as the code reads them: by place, where a definition reads them by node.
-use mathlib.Core.Path.{_≡_, refl, ap}
+use mathlib.Core.Path.{_≡_, ap}
 use mathlib.Core.List.{List}
 use Prim.Native.Nat.{ℕ, suc, _-_}
 use native.Mathlib.Omega.{arith}
@@ -7,11 +7,7 @@ use lib.ListN.{getD}
 use Rattle.lists.specs.Words.{at}
 use Rattle.graphs.specs.Image.{Image, to}
 
-pub read-word : (l : List ℕ) (x : ℕ) → at 0 l x ≡ getD l (x - 1) 0
-unfolding at
-read-word l x = refl
-
--- In an area that begins with node n + 1.
+-- The word of node r in an area that begins with node n + 1.
 pub read-past : (n : ℕ) (l : List ℕ) (r : ℕ) → at n l r ≡ getD l (r - n - 1) 0
 unfolding at
 read-past n l r = let e : r - suc n ≡ r - n - 1 = omega arith in ap (λ (i : ℕ). getD l i 0) e
