@@ -1,9 +1,10 @@
 -- The claims of specs/Claims, by citing what graphs/ has proved of searches.
-use mathlib.Core.Path.{sym, _∙_}
+use mathlib.Core.Path.{sym, ap, _∙_}
 use mathlib.Core.List.{List, [], _++_}
 use Prim.Native.Nat.{ℕ, _+_}
 use native.Mathlib.Omega.{arith}
 use Rattle.graphs.specs.Events.{History, words}
+use Rattle.graphs.specs.Results.{eventsLeft}
 use Rattle.graphs.specs.Image.{graphOf}
 use Rattle.graphs.specs.ArrayForm.{ArrayForm, arrayGraph, arrayLeft}
 use Rattle.graphs.specs.Refusals.{Lent}
@@ -15,7 +16,7 @@ use Rattle.graphs.proofs.Breadth.{breadth-first}
 use Rattle.graphs.proofs.Arrays.{array-same}
 use Rattle.graphs.proofs.Renamed.{converted-search}
 use Rattle.walks.specs.Promises.{writtenAreas}
-use Rattle.walkers.specs.Claims.{TakenClaim, Fits, WalkClaim, ArrayWalkClaim, ConvertedClaim}
+use Rattle.walkers.specs.Claims.{TakenClaim, Fits, WalkClaim, ArrayWalkClaim, ConvertedClaim, SameClaim, TurnedBackClaim}
 use Rattle.walks.specs.Writing.{Roomy}
 use Rattle.walks.proofs.Writing.{begins, words-many}
 use Rattle.walks.proofs.Numbers.{array-walk-same}
@@ -48,3 +49,11 @@ converted g start marks events increments own firsts tails numbers e long =
       sym (array-walk-same a start marks increments events (B .long-marks) (B .long-events) long) ∙ array-same g areas firsts tails numbers sound-image .taken start (B .start-vertex),
       converted-search g areas firsts tails numbers start sound-image (B .start-vertex),
     )
+
+pub same-walk : SameClaim
+same-walk k nodes h marks events t marks′ events′ u marks″ events″ P Q = (P .tally-is ∙ sym (Q .tally-is), (P .marks-are ∙ sym (Q .marks-are), P .events-are ∙ sym (Q .events-are)))
+
+pub turned-back : TurnedBackClaim
+turned-back g start marks events increments own firsts tails numbers t marks′ events′ u marks″ events″ e long P Q =
+    let S = converted g start marks events increments own firsts tails numbers e long .1 in
+    (P .tally-is ∙ sym (S .tallies) ∙ sym (Q .tally-is), (P .marks-are ∙ sym (S .marks (g .n + g .m) marks) ∙ sym (Q .marks-are), P .events-are ∙ ap (λ (h : History). eventsLeft h events) (sym (S .events))))

@@ -7,12 +7,15 @@ use mathlib.Core.List.{List, [], _++_, reverse}
 use Prim.Native.Nat.{ℕ, _+_, _≤_}
 use lib.ListN.{length}
 use Rattle.lists.specs.Counts.{sumOf}
-use Rattle.graphs.specs.Events.{History, tally, words}
+use Rattle.lists.specs.Words.{at}
+use Rattle.graphs.specs.Events.{History, tally, words, renamed}
+use Rattle.graphs.specs.Results.{marksLeft, eventsLeft}
 use Rattle.graphs.specs.Image.{Image, graphOf}
 use Rattle.graphs.specs.ArrayForm.{ArrayForm, arrayGraph, arrayLeft, numbersLeft}
 use Rattle.graphs.specs.Refusals.{Lent, short, imageAreas, sound}
 use Rattle.graphs.specs.Claims.{DepthClaim, BreadthClaim, SameSearch}
-use Rattle.walks.specs.Promises.{writtenAreas, walkNumber, arrayWalkNumber, depthWalk, arrayWalk, breadthWalk}
+use Rattle.images.specs.Arrays.{unlessRefused}
+use Rattle.walks.specs.Promises.{writtenAreas, walkNumber, arrayWalkNumber, depthWalk, arrayWalk, breadthWalk, tallied}
 
 -- A walk of a linked image is taken exactly where the profile is sound and every area is as long as stated.
 abbrev pub TakenClaim : Type 0
@@ -43,3 +46,24 @@ ArrayWalkClaim = (a : ArrayForm) (start : ℕ) (marks increments events : List �
 abbrev pub ConvertedClaim : Type 0
 ConvertedClaim = (g : Image) (start : ℕ) (marks events increments : List ℕ) (own : List Lent) (firsts tails numbers : List ℕ) → walkNumber g start marks events own ≡ 0 → g .n ≤ length increments
     → (arrayWalkNumber (arrayLeft g firsts tails) start marks increments events ≡ 0) × SameSearch g (arrayLeft g firsts tails) (numbersLeft g numbers) start
+
+-- ---- the walkers agree
+-- What each walker promises of its tally and of the areas that all walkers write, where its number is k and its events are h.
+pub record Promised (k nodes : ℕ) (h : History) (marks events t marks′ events′ : List ℕ) : Type 0 where
+  pub tally-is : t ≡ tallied k h
+  pub marks-are : marks′ ≡ unlessRefused k (marksLeft nodes h marks) marks
+  pub events-are : events′ ≡ unlessRefused k (eventsLeft h events) events
+
+-- Two walks of the same events, lent the same marks and event words, leave the same: the depth-first ones of a linked image, and the
+-- breadth-first ones.
+abbrev pub SameClaim : Type 0
+SameClaim = (k nodes : ℕ) (h : History) (marks events t marks′ events′ u marks″ events″ : List ℕ)
+    → Promised k nodes h marks events t marks′ events′ → Promised k nodes h marks events u marks″ events″
+    → (t ≡ u) × ((marks′ ≡ marks″) × (events′ ≡ events″))
+
+-- So does the walk of the array form that a conversion leaves, once the list of edge numbers has turned its events back.
+abbrev pub TurnedBackClaim : Type 0
+TurnedBackClaim = (g : Image) (start : ℕ) (marks events increments : List ℕ) (own : List Lent) (firsts tails numbers t marks′ events′ u marks″ events″ : List ℕ) → walkNumber g start marks events own ≡ 0 → g .n ≤ length increments
+    → Promised 0 (g .n + g .m) (depthWalk g start) marks events t marks′ events′
+    → Promised 0 (g .n + g .m) (arrayWalk (arrayLeft g firsts tails) start) marks events u marks″ events″
+    → (t ≡ u) × ((marks′ ≡ marks″) × (events′ ≡ eventsLeft (renamed (at (g .n) (numbersLeft g numbers)) (arrayWalk (arrayLeft g firsts tails) start)) events))
