@@ -1,8 +1,8 @@
 -- A call that meets no condition: each of its conditions is false.
 -- The number of a list of conditions is 0 only where the first is false and the number of the others is 0.
-use mathlib.Core.Path.{_≡_, refl, sym}
-use mathlib.Core.Logic.{_↔_}
-use mathlib.Core.Bool.{Bool, true, false, not, _||_}
+use mathlib.Core.Path.{_≡_, refl, sym, ap, _∙_}
+use mathlib.Core.Logic.{_↔_, _≢_}
+use mathlib.Core.Bool.{Bool, true, false, cond, not, _||_}
 use mathlib.Core.List.{List, [], _∷_, _++_}
 use Prim.Native.Nat.{ℕ, _≤_, _<_}
 use native.Mathlib.Omega.{arith}
@@ -34,6 +34,16 @@ all-false (refuse k b ∷ cs) own n e =
     let p = passes k b (cs ++ own) (n .0) e in
     let q = all-false cs own (n .1) (p .1) in
     ((p .0, q .0), q .1)
+
+-- The first conditions decide, unless none of them is true.
+pub first-front : (cs own : List Refusal) → firstOf cs ≢ 0 → firstOf (cs ++ own) ≡ firstOf cs
+first-front [] own ne = absurd (ne refl)
+first-front (refuse k true ∷ cs) own ne = refl
+first-front (refuse k false ∷ cs) own ne = first-front cs own ne
+
+pub first-rest : (cs own : List Refusal) → Numbered cs → firstOf cs ≡ 0 → firstOf (cs ++ own) ≡ firstOf own
+first-rest [] own n e = refl
+first-rest (refuse k b ∷ cs) own n e = let p = passes k b cs (n .0) e in ap (λ (x : Bool). cond x k (firstOf (cs ++ own))) (p .0) ∙ first-rest cs own (n .1) (p .1)
 
 pub long : (stated : ℕ) (area : List ℕ) (others : List Lent) → short (lent stated area ∷ others) ≡ false → (stated ≤ length area) × (short others ≡ false)
 long stated area others e = let z = neither (ltb (length area) stated) (short others) e in (ltb-false (length area) stated (z .0), z .1)

@@ -1,7 +1,7 @@
--- The number of a walk, once the areas that it writes are long enough and the start is a vertex: that of the checker.
+-- The number of a walk, once the areas that it is lent are long enough and the start is a vertex: that of the checker.
 -- The conditions left are the same, in the same order.
-use mathlib.Core.Path.{_≡_, refl, sym, _∙_}
-use mathlib.Core.Bool.{Bool, true, false, not, _||_}
+use mathlib.Core.Path.{_≡_, refl, sym, ap, _∙_}
+use mathlib.Core.Bool.{Bool, true, false, not, _&&_, _||_}
 use mathlib.Core.List.{List, [], _∷_}
 use Prim.Native.Nat.{ℕ, _+_, _*_, _≤_}
 use lib.Dec.{ltb, leb}
@@ -11,7 +11,7 @@ use Rattle.graphs.specs.Nodes.{isVertex}
 use Rattle.graphs.specs.Image.{Image}
 use Rattle.graphs.specs.ArrayForm.{ArrayForm}
 use Rattle.graphs.specs.Refusals.{Lent, lent, short, imageNumber, searchNumber, arrayNumber}
-use Rattle.walks.specs.Promises.{walkNumber, arrayWalkNumber}
+use Rattle.walks.specs.Promises.{arrayWalkNumber}
 
 -- What a caller says of the areas of its own.
 module _ (own : List Lent) {long : Bool} (e : long ≡ not (short own)) where
@@ -21,17 +21,25 @@ module _ (own : List Lent) {long : Bool} (e : long ≡ not (short own)) where
   pub own-long : not long ≡ false → short own ≡ false
   own-long h = not-true (short own) (sym e ∙ not-false long h)
 
--- An area of n words, as a walk tests it.
-pub own-test : (n : ℕ) (area : List ℕ) → leb n (length area) ≡ not (short (lent n area ∷ []))
-own-test n area = go (ltb (length area) n) refl
+-- One area more, as the code tests it.
+pub more-lent : (k : ℕ) (area : List ℕ) (others : List Lent) (b : Bool) → b ≡ not (short others) → (leb k (length area) && b) ≡ not (short (lent k area ∷ others))
+more-lent k area others b e = go (ltb (length area) k) refl
   where
-    go : (b : Bool) → ltb (length area) n ≡ b → leb n (length area) ≡ not (b || false)
-    go true e = lt-leb n (length area) (ltb-true (length area) n e)
-    go false e = le-leb n (length area) (ltb-false (length area) n e)
+    go : (c : Bool) → ltb (length area) k ≡ c → (leb k (length area) && b) ≡ not (c || short others)
+    go true q = ap (λ (x : Bool). x && b) (lt-leb k (length area) (ltb-true (length area) k q))
+    go false q = ap (λ (x : Bool). x && b) (le-leb k (length area) (ltb-false (length area) k q)) ∙ e
 
-pub walk-same : (g : Image) (start : ℕ) (marks events : List ℕ) (own : List Lent) → g .n + g .m ≤ length marks → 6 * (g .n + g .m) ≤ length events → short own ≡ false → isVertex (g .n) start ≡ true → imageNumber g [] ≡ walkNumber g start marks events own
+-- An area alone.
+pub own-test : (k : ℕ) (area : List ℕ) → leb k (length area) ≡ not (short (lent k area ∷ []))
+own-test k area = sym (and-last (leb k (length area))) ∙ more-lent k area [] true refl
+  where
+    and-last : (b : Bool) → (b && true) ≡ b
+    and-last true = refl
+    and-last false = refl
+
+pub search-same : (g : Image) (start : ℕ) (areas : List Lent) → short areas ≡ false → isVertex (g .n) start ≡ true → imageNumber g [] ≡ searchNumber g start areas
 unfolding imageNumber searchNumber
-walk-same g start marks events own a b c d = rw (le-ltb (length marks) (g .n + g .m) a, le-ltb (length events) (6 * (g .n + g .m)) b, c, d)
+search-same g start areas c d = rw (c, d)
 
 pub array-walk-same : (a : ArrayForm) (start : ℕ) (marks increments events : List ℕ) → a .n + a .m ≤ length marks → 6 * (a .n + a .m) ≤ length events → a .n ≤ length increments → arrayNumber a start [] ≡ arrayWalkNumber a start marks increments events
 unfolding arrayNumber

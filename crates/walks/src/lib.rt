@@ -7,6 +7,7 @@ mod write;
 
 pub use place::Place;
 pub use refusals::array_walk_number;
+pub use refusals::search_number;
 pub use refusals::walk_number;
 pub use write::Walked;
 pub use write::begin;

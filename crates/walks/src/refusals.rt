@@ -1,11 +1,55 @@
 // The number with which a walk is refused, else 0: 1, 2, 3 for all areas, and 4 come before what the words of the image show.
 ghost use mathlib.Core.Path.{_≡_};
-ghost use mathlib.Core.Bool.{not};
+ghost use mathlib.Core.Bool.{not, _&&_};
 ghost use mathlib.Core.List.{List};
-ghost use Rattle.graphs.specs.Refusals.{Lent, short};
+ghost use Prim.Native.Nat.{_*_, _≤_};
+ghost use lib.Dec.{leb};
+ghost use Rattle.graphs.specs.Refusals.{Lent, short, searchNumber};
 ghost use Rattle.images.specs.Checking.{image};
 ghost use Rattle.images.specs.Arrays.{arrayIn};
 ghost use Rattle.walks.specs.Promises.{walkNumber, arrayWalkNumber};
+
+// The number of a search of a linked image; `long` where every area that it is lent besides the image is as long as stated.
+pub fn search_number(n: u16, m: u16, start: images::Vertex, after: &[u16], tail: &[u16], long: bool) -> u16
+    ensures { λ r. ⌜ ((areas : List Lent) → long ≡ not (short areas) → r ≡ searchNumber (image n m (now (after .entry)) (now (tail .entry))) (start .0) areas) ⌝ }
+{
+    if n == 0 {
+        return 1;
+    }
+    if n > 1000 {
+        return 1;
+    }
+    if m > 4000 {
+        return 2;
+    }
+    if after.len() < n as usize + m as usize {
+        return 3;
+    }
+    if tail.len() < m as usize {
+        return 3;
+    }
+    if !long {
+        return 3;
+    }
+    if !images::is_vertex(n, start) {
+        return 4;
+    }
+    images::check_image(n, m, after, tail)
+}
+
+// Whether marks and event words are as many as a walk needs, and its own areas too.
+fn are_long(nodes: usize, marks: usize, events: usize, long: bool) -> bool
+    requires { ⌜ nodes ≤ 131070 ⌝ }
+    ensures { λ r. ⌜ r ≡ (leb nodes marks && (leb (6 * nodes) events && long)) ⌝ }
+{
+    if marks < nodes {
+        return false;
+    }
+    if events < 6 * nodes {
+        return false;
+    }
+    long
+}
 
 // The number of a walk of a linked image; `long` where the areas of the walk's own are as long as stated.
 pub fn walk_number(
@@ -20,35 +64,9 @@ pub fn walk_number(
 ) -> u16
     ensures { λ r. ⌜ ((own : List Lent) → long ≡ not (short own) → r ≡ walkNumber (image n m (now (after .entry)) (now (tail .entry))) (start .0) (now (marks .entry)) (now (events .entry)) own) ⌝ }
 {
-    if n == 0 {
-        return 1;
-    }
-    if n > 1000 {
-        return 1;
-    }
-    if m > 4000 {
-        return 2;
-    }
     let nodes = n as usize + m as usize;
-    if after.len() < nodes {
-        return 3;
-    }
-    if tail.len() < m as usize {
-        return 3;
-    }
-    if marks.len() < nodes {
-        return 3;
-    }
-    if events.len() < 6 * nodes {
-        return 3;
-    }
-    if !long {
-        return 3;
-    }
-    if !images::is_vertex(n, start) {
-        return 4;
-    }
-    images::check_image(n, m, after, tail)
+    let all = are_long(nodes, marks.len(), events.len(), long);
+    search_number(n, m, start, after, tail, all)
 }
 
 // The number of a walk of an array form.

@@ -1,0 +1,2 @@
+-- What a step leaves once it is tried.
+pub mod Steps

@@ -1,0 +1,173 @@
+// The steps back: an edge of the list that was passed is put back; the scan of v ends; v is left while rolling back.
+use crate::tried::Tried;
+use crate::tried::is_edge;
+use crate::tried::read_after;
+use crate::tried::unfit;
+use crate::tried::write_one;
+use crate::tried::write_two;
+use images::Edge;
+use images::Vertex;
+use images::is_link;
+use states::State;
+use walks::clear;
+ghost use mathlib.Core.Path.{_≡_};
+ghost use mathlib.Core.Bool.{cond, _&&_};
+ghost use mathlib.Core.List.{List};
+ghost use Prim.Native.Nat.{ℕ, _+_, _*_, _≤_, _<_};
+ghost use lib.ListN.{length};
+ghost use Rattle.graphs.specs.Nodes.{Vertex, isEdge, isNode};
+ghost use Rattle.folding.specs.Machine.{relink, retreat, finish, undo-tree, undo-open, target, upward};
+ghost use Rattle.states.specs.Answers.{configOf};
+ghost use Rattle.folded.specs.Steps.{Ready, tried, trying, upwardIn, closing, undoing};
+
+// Puts back f, an edge (document 01: Turn): e, f, a(f) become f, a(f), e.
+fn relink(s: State, after: &mut [u16], made: usize) -> Tried
+    requires { ⌜ (s .n < s .f) × (s .f ≤ length (now after)) ⌝ }
+    ensures { λ r. ⌜ ((tail marks area : List ℕ) → tried r (now (after .exit)) tail marks area ≡ trying (configOf s (now (after .entry)) tail marks) relink made area) ⌝ }
+{
+    let f = s.f;
+    let i = (f - 1) as usize;
+    let w = after[i];
+    if w as usize > s.n as usize + s.m as usize {
+        return unfit(s, made);
+    }
+    after[i] = s.e.0;
+    let r = Edge(f);
+    let mut t = s;
+    t.e = r;
+    t.f = w;
+    if s.phase != 4 {
+        t.phase = 2;
+    }
+    Tried {
+        fits: true,
+        made: made,
+        state: t,
+    }
+}
+
+// The tree edge into v, which is a(f) once a(v) is e; 0 where that is no edge, or where its tail word cannot be a trailer.
+fn tree_edge(s: State, after: &[u16], tail: &[u16]) -> u16
+    requires { ⌜ Ready s (length (now after)) (length (now tail)) (s .n + s .m) × Vertex (s .n) (s .f) ⌝ }
+    ensures { λ r. ⌜ ((marks : List ℕ) → r ≡ upwardIn (configOf s (now (after .entry)) (now (tail .entry)) marks)) ⌝ }
+{
+    let n = s.n;
+    let m = s.m;
+    let r = read_after(after, s.f, s.v.0, s.e.0);
+    if !is_edge(n, m, r) {
+        return 0;
+    }
+    let j = (r - n - 1) as usize;
+    if tail[j] as usize > n as usize + m as usize {
+        return 0;
+    }
+    r
+}
+
+// Ends the scan of v, and goes back along the tree edge into it (document 01: Close).
+fn retreat(s: State, after: &mut [u16], tail: &mut [u16], events: &mut [u16], made: usize) -> Tried
+    requires { ⌜ Ready s (length (now after)) (length (now tail)) (s .n + s .m) × Vertex (s .n) (s .f) × (3 * made + 6 ≤ length (now events)) ⌝ }
+    ensures { λ r. ⌜ ((marks : List ℕ) → tried r (now (after .exit)) (now (tail .exit)) marks (now (events .exit)) ≡ trying (configOf s (now (after .entry)) (now (tail .entry)) marks) retreat made (now (events .entry))) ⌝ }
+{
+    let n = s.n;
+    let v = s.v.0;
+    let f = s.f;
+    let r = tree_edge(s, after, tail);
+    if r == 0 {
+        return unfit(s, made);
+    }
+    let i = (r - 1) as usize;
+    let y = Edge(after[i]);
+    if !is_link(n, s.m, y) {
+        return unfit(s, made);
+    }
+    let k = (v - 1) as usize;
+    after[k] = s.e.0;
+    let j = (r - n - 1) as usize;
+    let w = tail[j];
+    tail[j] = v;
+    after[i] = w;
+    write_two(events, made, 6, 0, v, 5, r, f);
+    let u = Vertex(f);
+    let mut t = s;
+    t.v = u;
+    t.e = y;
+    t.f = r;
+    t.phase = 1;
+    Tried {
+        fits: true,
+        made: made + 2,
+        state: t,
+    }
+}
+
+// Ends the scan of the start.
+fn finish(s: State, after: &mut [u16], events: &mut [u16], made: usize) -> Tried
+    requires { ⌜ (0 < s .v .0) × (s .v .0 ≤ length (now after)) × (3 * made + 6 ≤ length (now events)) ⌝ }
+    ensures { λ r. ⌜ ((tail marks : List ℕ) → tried r (now (after .exit)) tail marks (now (events .exit)) ≡ trying (configOf s (now (after .entry)) tail marks) finish made (now (events .entry))) ⌝ }
+{
+    let v = s.v.0;
+    if v != s.start.0 {
+        return unfit(s, made);
+    }
+    let i = (v - 1) as usize;
+    after[i] = s.e.0;
+    write_one(events, made, 6, 0, v);
+    let mut t = s;
+    t.phase = 3;
+    Tried {
+        fits: true,
+        made: made + 1,
+        state: t,
+    }
+}
+
+// Leaves v along the tree edge into it, rolling back.
+fn undo_tree(s: State, after: &mut [u16], tail: &mut [u16], made: usize) -> Tried
+    requires { ⌜ Ready s (length (now after)) (length (now tail)) (s .n + s .m) × Vertex (s .n) (s .f) ⌝ }
+    ensures { λ r. ⌜ ((marks area : List ℕ) → tried r (now (after .exit)) (now (tail .exit)) marks area ≡ trying (configOf s (now (after .entry)) (now (tail .entry)) marks) undo-tree made area) ⌝ }
+{
+    let n = s.n;
+    let v = s.v.0;
+    let r = tree_edge(s, after, tail);
+    if r == 0 {
+        return unfit(s, made);
+    }
+    let k = (v - 1) as usize;
+    after[k] = s.e.0;
+    let j = (r - n - 1) as usize;
+    let w = tail[j];
+    tail[j] = v;
+    let u = Vertex(s.f);
+    let e = Edge(r);
+    let mut t = s;
+    t.v = u;
+    t.e = e;
+    t.f = w;
+    Tried {
+        fits: true,
+        made: made,
+        state: t,
+    }
+}
+
+// Leaves the start, rolling back: the marks of the n vertices become 0.
+fn undo_open(s: State, after: &mut [u16], marks: &mut [u16], made: usize) -> Tried
+    requires { ⌜ (0 < s .v .0) × (s .v .0 ≤ length (now after)) × (s .n ≤ length (now marks)) ⌝ }
+    ensures { λ r. ⌜ ((tail area : List ℕ) → tried r (now (after .exit)) tail (now (marks .exit)) area ≡ trying (configOf s (now (after .entry)) tail (now (marks .entry))) undo-open made area) ⌝ }
+{
+    let v = s.v.0;
+    if v != s.start.0 {
+        return unfit(s, made);
+    }
+    let i = (v - 1) as usize;
+    after[i] = s.e.0;
+    clear(marks, s.n as usize);
+    let mut t = s;
+    t.phase = 5;
+    Tried {
+        fits: true,
+        made: made,
+        state: t,
+    }
+}

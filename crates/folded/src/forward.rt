@@ -1,0 +1,114 @@
+// The steps forward: a tree edge, and an edge to a vertex that is labelled.
+use crate::tried::Tried;
+use crate::tried::read_after;
+use crate::tried::unfit;
+use crate::tried::write_two;
+use images::Edge;
+use images::Vertex;
+use images::is_link;
+use images::is_vertex;
+use states::State;
+ghost use mathlib.Core.Path.{_≡_};
+ghost use mathlib.Core.Bool.{true};
+ghost use mathlib.Core.List.{List};
+ghost use Prim.Native.Nat.{ℕ, _+_, _*_, _≤_, _<_};
+ghost use lib.ListN.{length};
+ghost use Rattle.lists.specs.Words.{at};
+ghost use Rattle.graphs.specs.Nodes.{Vertex, isVertex};
+ghost use Rattle.folding.specs.Machine.{tree, nontree, target, pickStep, fresh};
+ghost use Rattle.states.specs.Answers.{configOf};
+ghost use Rattle.folded.specs.Steps.{Ready, tried, trying};
+
+// Goes on along e to x, which is not labelled: a(v) becomes e; v, f, t(e) become x, v, f; x is marked with the next label number.
+fn tree(
+    s: State,
+    x: u16,
+    after: &mut [u16],
+    tail: &mut [u16],
+    marks: &mut [u16],
+    events: &mut [u16],
+    made: usize,
+) -> Tried
+    requires { ⌜ Ready s (length (now after)) (length (now tail)) (length (now marks)) × (s .n < s .e .0) × (x ≡ at (s .n) (now tail) (s .e .0)) × Vertex (s .n) x × (3 * made + 6 ≤ length (now events)) ⌝ }
+    ensures { λ r. ⌜ tried r (now (after .exit)) (now (tail .exit)) (now (marks .exit)) (now (events .exit)) ≡ trying (configOf s (now (after .entry)) (now (tail .entry)) (now (marks .entry))) tree made (now (events .entry)) ⌝ }
+{
+    let n = s.n;
+    let v = s.v.0;
+    let e = s.e.0;
+    let label = s.next;
+    if label > n {
+        return unfit(s, made);
+    }
+    let w = Edge(read_after(after, x, v, e));
+    if !is_link(n, s.m, w) {
+        return unfit(s, made);
+    }
+    let i = (v - 1) as usize;
+    after[i] = e;
+    let j = (e - n - 1) as usize;
+    tail[j] = s.f;
+    let k = (x - 1) as usize;
+    marks[k] = label;
+    write_two(events, made, 2, e, v, 1, 0, x);
+    let u = Vertex(x);
+    let mut t = s;
+    t.v = u;
+    t.e = w;
+    t.f = v;
+    t.next = label + 1;
+    Tried {
+        fits: true,
+        made: made + 2,
+        state: t,
+    }
+}
+
+// Passes e, which leads to a labelled vertex: e, f, a(e) become a(e), e, f.
+fn nontree(s: State, after: &mut [u16], events: &mut [u16], made: usize) -> Tried
+    requires { ⌜ (0 < s .e .0) × (s .e .0 ≤ length (now after)) × (3 * made + 6 ≤ length (now events)) ⌝ }
+    ensures { λ r. ⌜ ((tail marks : List ℕ) → isVertex (s .n) (at (s .n) tail (s .e .0)) ≡ true → tried r (now (after .exit)) tail marks (now (events .exit)) ≡ trying (configOf s (now (after .entry)) tail marks) nontree made (now (events .entry))) ⌝ }
+{
+    let v = s.v.0;
+    let e = s.e.0;
+    let i = (e - 1) as usize;
+    let w = Edge(after[i]);
+    if !is_link(s.n, s.m, w) {
+        return unfit(s, made);
+    }
+    after[i] = s.f;
+    write_two(events, made, 3, e, v, 4, e, v);
+    let mut t = s;
+    t.e = w;
+    t.f = e;
+    t.circular = 1;
+    Tried {
+        fits: true,
+        made: made + 2,
+        state: t,
+    }
+}
+
+// Traverses e.
+fn advance(
+    s: State,
+    after: &mut [u16],
+    tail: &mut [u16],
+    marks: &mut [u16],
+    events: &mut [u16],
+    made: usize,
+) -> Tried
+    requires { ⌜ Ready s (length (now after)) (length (now tail)) (length (now marks)) × (s .n < s .e .0) × (3 * made + 6 ≤ length (now events)) ⌝ }
+    ensures { λ r. ⌜ tried r (now (after .exit)) (now (tail .exit)) (now (marks .exit)) (now (events .exit)) ≡ trying (configOf s (now (after .entry)) (now (tail .entry)) (now (marks .entry))) (onward (configOf s (now (after .entry)) (now (tail .entry)) (now (marks .entry)))) made (now (events .entry)) ⌝ }
+{
+    let n = s.n;
+    let j = (s.e.0 - n - 1) as usize;
+    let x = tail[j];
+    if !is_vertex(n, Vertex(x)) {
+        return unfit(s, made);
+    }
+    let k = (x - 1) as usize;
+    if marks[k] == 0 {
+        return tree(s, x, after, tail, marks, events, made);
+    }
+    nontree(s, after, events, made)
+}

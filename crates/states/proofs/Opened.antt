@@ -1,0 +1,57 @@
+-- An opening, by its number.
+-- What the start's labelling leaves is one mark and one event, where there is room for them.
+use mathlib.Core.Path.{_≡_, refl, sym, ap, _∙_}
+use mathlib.Core.Logic.{_≢_}
+use mathlib.Core.List.{List, [], _∷_}
+use Prim.Native.Nat.{ℕ, zero, suc, _+_, _≤_}
+use native.Mathlib.Omega.{arith}
+use lib.ListN.{length}
+use Rattle.lists.specs.Words.{overlay}
+use Rattle.graphs.specs.Nodes.{Vertex}
+use Rattle.graphs.specs.Events.{event, label, words, _▸_}
+use Rattle.graphs.specs.Image.{Image}
+use Rattle.graphs.specs.Refusals.{lent, searchNumber}
+use Rattle.graphs.proofs.Refusals.{long}
+use Rattle.graphs.proofs.Results.{marks-first}
+use Rattle.graphs.proofs.Sound.{profile-sound}
+use Rattle.folding.specs.Calls.{Reply, refusing, unless, unopened, openNumber, openedAt, openReply, opening}
+use Rattle.walks.specs.Writing.{Roomy}
+use Rattle.walks.proofs.Writing.{Starts, beginning}
+
+module _ (g : Image) (start : ℕ) (marks area : List ℕ) {k : ℕ} (e : k ≡ searchNumber g start (lent (g .n + g .m) marks ∷ lent 3 area ∷ [])) where
+  number-is : openNumber g start marks area ≡ k
+  unfolding openNumber
+  number-is = sym e
+
+  pub open-refused : k ≢ 0 → opening g start marks area ≡ refusing k (unopened g start marks) area
+  unfolding opening
+  open-refused ne = ap (λ (j : ℕ). unless j (unopened g start marks) area (openReply g start marks area)) number-is ∙ go k ne
+    where
+      go : (j : ℕ) → j ≢ 0 → unless j (unopened g start marks) area (openReply g start marks area) ≡ refusing j (unopened g start marks) area
+      go zero n = absurd (n refl)
+      go (suc j) n = refl
+
+  pub open-taken : k ≡ 0 → opening g start marks area ≡ openReply g start marks area
+  unfolding opening
+  open-taken z = ap (λ (j : ℕ). unless j (unopened g start marks) area (openReply g start marks area)) (number-is ∙ z)
+
+  -- What an opening taken may rely on.
+  pub record Opens : Type 0 where
+    pub start-vertex : Vertex (g .n) start
+    pub long-after : g .n + g .m ≤ length (g .after)
+    pub long-marks : g .n + g .m ≤ length marks
+    pub long-area : 3 ≤ length area
+
+  pub opens : k ≡ 0 → Opens
+  opens z =
+      let P = profile-sound g start (lent (g .n + g .m) marks ∷ lent 3 area ∷ []) (sym e ∙ z) in
+      let a = long (g .n + g .m) marks (lent 3 area ∷ []) (P .areas-long) in
+      record { start-vertex = P .start-vertex; long-after = P .sound .long-after; long-marks = a .0; long-area = long 3 area [] (a .1) .0 }
+
+  pub opened : {marks′ area′ t : List ℕ} → k ≡ 0 → Starts (g .n + g .m) start marks area marks′ area′ t → (marks′ ≡ openedAt g start marks .marks) × (area′ ≡ overlay (words (event label 0 start ∷ [])) area)
+  opened z w =
+      let O = opens z in
+      let x = O .start-vertex in
+      let R : Roomy (g .n + g .m) ([] ▸ event label 0 start) marks area = record { long-marks = O .long-marks; room = O .long-area; few = omega arith } in
+      let H = beginning R (omega arith) start (x .0) (omega arith) w in
+      (H .marked ∙ sym (marks-first (g .n + g .m) marks start (x .0) (omega arith)), H .written)

@@ -1,0 +1,2 @@
+-- What the calls answer, as callers see it.
+pub mod Answers
