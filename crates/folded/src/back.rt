@@ -11,17 +11,15 @@ use images::is_link;
 use states::State;
 use walks::clear;
 ghost use mathlib.Core.Path.{_≡_};
-ghost use mathlib.Core.Bool.{cond, _&&_};
 ghost use mathlib.Core.List.{List};
 ghost use Prim.Native.Nat.{ℕ, _+_, _*_, _≤_, _<_};
 ghost use lib.ListN.{length};
-ghost use Rattle.graphs.specs.Nodes.{Vertex, isEdge, isNode};
-ghost use Rattle.folding.specs.Machine.{relink, retreat, finish, undo-tree, undo-open, target, upward};
+ghost use Rattle.folding.specs.Machine.{relink, retreat, finish, undo-tree, undo-open};
 ghost use Rattle.states.specs.Answers.{configOf};
-ghost use Rattle.folded.specs.Steps.{Ready, tried, trying, upwardIn, closing, undoing};
+ghost use Rattle.folded.specs.Steps.{Ready, tried, trying, upwardIn};
 
 // Puts back f, an edge (document 01: Turn): e, f, a(f) become f, a(f), e.
-fn relink(s: State, after: &mut [u16], made: usize) -> Tried
+pub(crate) fn relink(s: State, after: &mut [u16], made: usize) -> Tried
     requires { ⌜ (s .n < s .f) × (s .f ≤ length (now after)) ⌝ }
     ensures { λ r. ⌜ ((tail marks area : List ℕ) → tried r (now (after .exit)) tail marks area ≡ trying (configOf s (now (after .entry)) tail marks) relink made area) ⌝ }
 {
@@ -48,7 +46,7 @@ fn relink(s: State, after: &mut [u16], made: usize) -> Tried
 
 // The tree edge into v, which is a(f) once a(v) is e; 0 where that is no edge, or where its tail word cannot be a trailer.
 fn tree_edge(s: State, after: &[u16], tail: &[u16]) -> u16
-    requires { ⌜ Ready s (length (now after)) (length (now tail)) (s .n + s .m) × Vertex (s .n) (s .f) ⌝ }
+    requires { ⌜ Ready s (length (now after)) (length (now tail)) (s .n + s .m) × (0 < s .f) × (s .f ≤ s .n) ⌝ }
     ensures { λ r. ⌜ ((marks : List ℕ) → r ≡ upwardIn (configOf s (now (after .entry)) (now (tail .entry)) marks)) ⌝ }
 {
     let n = s.n;
@@ -65,8 +63,14 @@ fn tree_edge(s: State, after: &[u16], tail: &[u16]) -> u16
 }
 
 // Ends the scan of v, and goes back along the tree edge into it (document 01: Close).
-fn retreat(s: State, after: &mut [u16], tail: &mut [u16], events: &mut [u16], made: usize) -> Tried
-    requires { ⌜ Ready s (length (now after)) (length (now tail)) (s .n + s .m) × Vertex (s .n) (s .f) × (3 * made + 6 ≤ length (now events)) ⌝ }
+pub(crate) fn retreat(
+    s: State,
+    after: &mut [u16],
+    tail: &mut [u16],
+    events: &mut [u16],
+    made: usize,
+) -> Tried
+    requires { ⌜ Ready s (length (now after)) (length (now tail)) (s .n + s .m) × (0 < s .f) × (s .f ≤ s .n) × (3 * made + 6 ≤ length (now events)) ⌝ }
     ensures { λ r. ⌜ ((marks : List ℕ) → tried r (now (after .exit)) (now (tail .exit)) marks (now (events .exit)) ≡ trying (configOf s (now (after .entry)) (now (tail .entry)) marks) retreat made (now (events .entry))) ⌝ }
 {
     let n = s.n;
@@ -102,7 +106,7 @@ fn retreat(s: State, after: &mut [u16], tail: &mut [u16], events: &mut [u16], ma
 }
 
 // Ends the scan of the start.
-fn finish(s: State, after: &mut [u16], events: &mut [u16], made: usize) -> Tried
+pub(crate) fn finish(s: State, after: &mut [u16], events: &mut [u16], made: usize) -> Tried
     requires { ⌜ (0 < s .v .0) × (s .v .0 ≤ length (now after)) × (3 * made + 6 ≤ length (now events)) ⌝ }
     ensures { λ r. ⌜ ((tail marks : List ℕ) → tried r (now (after .exit)) tail marks (now (events .exit)) ≡ trying (configOf s (now (after .entry)) tail marks) finish made (now (events .entry))) ⌝ }
 {
@@ -123,8 +127,8 @@ fn finish(s: State, after: &mut [u16], events: &mut [u16], made: usize) -> Tried
 }
 
 // Leaves v along the tree edge into it, rolling back.
-fn undo_tree(s: State, after: &mut [u16], tail: &mut [u16], made: usize) -> Tried
-    requires { ⌜ Ready s (length (now after)) (length (now tail)) (s .n + s .m) × Vertex (s .n) (s .f) ⌝ }
+pub(crate) fn undo_tree(s: State, after: &mut [u16], tail: &mut [u16], made: usize) -> Tried
+    requires { ⌜ Ready s (length (now after)) (length (now tail)) (s .n + s .m) × (0 < s .f) × (s .f ≤ s .n) ⌝ }
     ensures { λ r. ⌜ ((marks area : List ℕ) → tried r (now (after .exit)) (now (tail .exit)) marks area ≡ trying (configOf s (now (after .entry)) (now (tail .entry)) marks) undo-tree made area) ⌝ }
 {
     let n = s.n;
@@ -152,7 +156,7 @@ fn undo_tree(s: State, after: &mut [u16], tail: &mut [u16], made: usize) -> Trie
 }
 
 // Leaves the start, rolling back: the marks of the n vertices become 0.
-fn undo_open(s: State, after: &mut [u16], marks: &mut [u16], made: usize) -> Tried
+pub(crate) fn undo_open(s: State, after: &mut [u16], marks: &mut [u16], made: usize) -> Tried
     requires { ⌜ (0 < s .v .0) × (s .v .0 ≤ length (now after)) × (s .n ≤ length (now marks)) ⌝ }
     ensures { λ r. ⌜ ((tail area : List ℕ) → tried r (now (after .exit)) tail (now (marks .exit)) area ≡ trying (configOf s (now (after .entry)) tail (now (marks .entry))) undo-open made area) ⌝ }
 {

@@ -58,11 +58,12 @@ pub fn step(
     if !t.fits {
         return refused(8, s);
     }
+    let u = t.state;
     Reply {
         answer: Answer::Taken,
         steps: 1,
         events: t.made,
-        state: t.state,
+        state: u,
     }
 }
 

@@ -14,10 +14,10 @@ ghost use mathlib.Core.List.{List};
 ghost use Prim.Native.Nat.{ℕ, _+_, _*_, _≤_, _<_};
 ghost use lib.ListN.{length};
 ghost use Rattle.lists.specs.Words.{at};
-ghost use Rattle.graphs.specs.Nodes.{Vertex, isVertex};
-ghost use Rattle.folding.specs.Machine.{tree, nontree, target, pickStep, fresh};
+ghost use Rattle.graphs.specs.Nodes.{isVertex};
+ghost use Rattle.folding.specs.Machine.{tree, nontree};
 ghost use Rattle.states.specs.Answers.{configOf};
-ghost use Rattle.folded.specs.Steps.{Ready, tried, trying};
+ghost use Rattle.folded.specs.Steps.{Ready, tried, trying, onward};
 
 // Goes on along e to x, which is not labelled: a(v) becomes e; v, f, t(e) become x, v, f; x is marked with the next label number.
 fn tree(
@@ -29,7 +29,7 @@ fn tree(
     events: &mut [u16],
     made: usize,
 ) -> Tried
-    requires { ⌜ Ready s (length (now after)) (length (now tail)) (length (now marks)) × (s .n < s .e .0) × (x ≡ at (s .n) (now tail) (s .e .0)) × Vertex (s .n) x × (3 * made + 6 ≤ length (now events)) ⌝ }
+    requires { ⌜ Ready s (length (now after)) (length (now tail)) (length (now marks)) × (s .n < s .e .0) × (x ≡ at (s .n) (now tail) (s .e .0)) × (0 < x) × (x ≤ s .n) × (3 * made + 6 ≤ length (now events)) ⌝ }
     ensures { λ r. ⌜ tried r (now (after .exit)) (now (tail .exit)) (now (marks .exit)) (now (events .exit)) ≡ trying (configOf s (now (after .entry)) (now (tail .entry)) (now (marks .entry))) tree made (now (events .entry)) ⌝ }
 {
     let n = s.n;
@@ -89,7 +89,7 @@ fn nontree(s: State, after: &mut [u16], events: &mut [u16], made: usize) -> Trie
 }
 
 // Traverses e.
-fn advance(
+pub(crate) fn advance(
     s: State,
     after: &mut [u16],
     tail: &mut [u16],

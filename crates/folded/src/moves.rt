@@ -44,7 +44,7 @@ fn go_back(
 }
 
 // Makes the step to come, where the words that it reads are in kind.
-fn make(
+pub(crate) fn make(
     s: State,
     after: &mut [u16],
     tail: &mut [u16],

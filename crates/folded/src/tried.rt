@@ -18,7 +18,7 @@ pub struct Tried {
 }
 
 // A step whose words are out of kind stores nothing.
-fn unfit(s: State, made: usize) -> Tried
+pub(crate) fn unfit(s: State, made: usize) -> Tried
     ensures { λ r. ⌜ ((after tail marks area : List ℕ) → tried r after tail marks area ≡ out (configOf s after tail marks) made area) ⌝ }
 {
     Tried {
@@ -29,7 +29,7 @@ fn unfit(s: State, made: usize) -> Tried
 }
 
 // Whether r is one of the edges n + 1 to n + m.
-fn is_edge(n: u16, m: u16, r: u16) -> bool
+pub(crate) fn is_edge(n: u16, m: u16, r: u16) -> bool
     ensures { λ b. ⌜ b ≡ isEdge n m r ⌝ }
 {
     if r <= n {
@@ -39,7 +39,7 @@ fn is_edge(n: u16, m: u16, r: u16) -> bool
 }
 
 // The after word of node x, as it is read once that of v is e.
-fn read_after(after: &[u16], x: u16, v: u16, e: u16) -> u16
+pub(crate) fn read_after(after: &[u16], x: u16, v: u16, e: u16) -> u16
     requires { ⌜ (0 < x) × (x ≤ length (now after)) × (0 < v) × (v ≤ length (now after)) ⌝ }
     ensures { λ r. ⌜ r ≡ at 0 (put 0 (now (after .entry)) v e) x ⌝ }
 {
@@ -51,7 +51,7 @@ fn read_after(after: &[u16], x: u16, v: u16, e: u16) -> u16
 }
 
 // Writes one event behind the first `made`.
-fn write_one(events: &mut [u16], made: usize, kind: u16, r: u16, u: u16)
+pub(crate) fn write_one(events: &mut [u16], made: usize, kind: u16, r: u16, u: u16)
     requires { ⌜ 3 * made + 3 ≤ length (now events) ⌝ }
     ensures { λ _. ⌜ now (events .exit) ≡ pasted (3 * made) (kind ∷ r ∷ u ∷ []) (now (events .entry)) ⌝ }
 {
@@ -62,7 +62,16 @@ fn write_one(events: &mut [u16], made: usize, kind: u16, r: u16, u: u16)
 }
 
 // Writes two events behind the first `made`.
-fn write_two(events: &mut [u16], made: usize, a: u16, r: u16, u: u16, b: u16, q: u16, x: u16)
+pub(crate) fn write_two(
+    events: &mut [u16],
+    made: usize,
+    a: u16,
+    r: u16,
+    u: u16,
+    b: u16,
+    q: u16,
+    x: u16,
+)
     requires { ⌜ 3 * made + 6 ≤ length (now events) ⌝ }
     ensures { λ _. ⌜ now (events .exit) ≡ pasted (3 * made) (a ∷ r ∷ u ∷ b ∷ q ∷ x ∷ []) (now (events .entry)) ⌝ }
 {

@@ -10,7 +10,14 @@ ghost use Rattle.images.specs.Arrays.{arrayIn};
 ghost use Rattle.walks.specs.Promises.{walkNumber, arrayWalkNumber};
 
 // The number of a search of a linked image; `long` where every area that it is lent besides the image is as long as stated.
-pub fn search_number(n: u16, m: u16, start: images::Vertex, after: &[u16], tail: &[u16], long: bool) -> u16
+pub fn search_number(
+    n: u16,
+    m: u16,
+    start: images::Vertex,
+    after: &[u16],
+    tail: &[u16],
+    long: bool,
+) -> u16
     ensures { λ r. ⌜ ((areas : List Lent) → long ≡ not (short areas) → r ≡ searchNumber (image n m (now (after .entry)) (now (tail .entry))) (start .0) areas) ⌝ }
 {
     if n == 0 {

@@ -1,0 +1,91 @@
+use borrow.Author.Needs.{needs}
+use Rattle.folded.proofs.back.relink.Statement.{statement}
+use Rattle.folded.proofs.back.relink.Tie as tie
+use Rattle.folded.proofs.back.relink.Reads as reads
+use Rattle.folded.proofs.back.relink.Lts as lts
+use Rattle.folded.proofs.tried.unfit.Reads as unfit-reads
+
+-- src/back.rt:27:14
+sub-i : tie.Need-sub-i
+sub-i c = search needs
+
+-- src/back.rt:27:13
+cast-i : tie.Need-cast-i
+cast-i c = search needs
+
+-- src/back.rt:28:13
+mul-w : tie.Need-mul-w
+mul-w c = search needs
+
+-- src/back.rt:28:13
+slice-read-w : tie.Need-slice-read-w
+slice-read-w c = search needs
+
+-- src/back.rt:29:8
+cast-if1 : tie.Need-cast-if1
+cast-if1 c = ?
+
+-- src/back.rt:29:21
+cast-if1-2 : tie.Need-cast-if1-2
+cast-if1-2 c = search needs
+
+-- src/back.rt:29:36
+cast-if1-3 : tie.Need-cast-if1-3
+cast-if1-3 c = search needs
+
+-- src/back.rt:29:21
+add-if1 : tie.Need-add-if1
+add-if1 c = search needs
+
+-- src/back.rt:30:9
+unfit-requires : tie.Need-unfit-requires
+unfit-requires c κs = search needs
+
+-- src/back.rt:30:9
+returns : tie.Need-returns
+returns c = ?
+
+-- src/back.rt:32:5
+mul-after : tie.Need-mul-after
+mul-after c = search needs
+
+-- src/back.rt:32:5
+slice-write-after : tie.Need-slice-write-after
+slice-write-after c = search needs
+
+-- src/back.rt:22:1
+same-length : tie.Need-same-length
+same-length c = search needs
+
+-- src/back.rt:22:1
+returns-2 : tie.Need-returns-2
+returns-2 c = ?
+
+-- src/back.rt:22:1
+same-length-2 : tie.Need-same-length-2
+same-length-2 c = search needs
+
+-- src/back.rt:22:1
+returns-3 : tie.Need-returns-3
+returns-3 c = ?
+
+pub relink-spec : {M : Type 1} → statement M
+relink-spec =
+    tie.close
+    (tie.spec
+    sub-i
+    cast-i
+    mul-w
+    slice-read-w
+    cast-if1
+    cast-if1-2
+    cast-if1-3
+    add-if1
+    unfit-requires
+    returns
+    mul-after
+    slice-write-after
+    same-length
+    returns-2
+    same-length-2
+    returns-3)

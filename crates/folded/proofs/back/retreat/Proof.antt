@@ -1,0 +1,179 @@
+use borrow.Author.Needs.{needs}
+use Rattle.folded.proofs.back.retreat.Statement.{statement}
+use Rattle.folded.proofs.back.retreat.Tie as tie
+use Rattle.folded.proofs.back.retreat.Reads as reads
+use Rattle.folded.proofs.back.retreat.Lts as lts
+use Rattle.folded.proofs.back.tree_edge.Reads as tree-edge-reads
+use Rattle.folded.proofs.tried.unfit.Reads as unfit-reads
+use Rattle.folded.proofs.tried.write_two.Reads as write-two-reads
+use Rattle.images.proofs.is_link.Reads as is-link-reads
+
+-- src/back.rt:73:9
+tree-edge-requires : tie.Need-tree-edge-requires
+tree-edge-requires c κs = search needs
+
+-- src/back.rt:75:9
+unfit-requires : tie.Need-unfit-requires
+unfit-requires c κs = search needs
+
+-- src/back.rt:75:9
+same-length : tie.Need-same-length
+same-length c = search needs
+
+-- src/back.rt:75:9
+same-length-2 : tie.Need-same-length-2
+same-length-2 c = search needs
+
+-- src/back.rt:75:9
+returns : tie.Need-returns
+returns c = ?
+
+-- src/back.rt:77:14
+sub-i : tie.Need-sub-i
+sub-i c = search needs
+
+-- src/back.rt:77:13
+cast-i : tie.Need-cast-i
+cast-i c = search needs
+
+-- src/back.rt:78:18
+mul-k : tie.Need-mul-k
+mul-k c = search needs
+
+-- src/back.rt:78:18
+slice-read-k : tie.Need-slice-read-k
+slice-read-k c = ?
+
+-- src/back.rt:79:9
+is-link-requires : tie.Need-is-link-requires
+is-link-requires c κs = search needs
+
+-- src/back.rt:80:9
+unfit-requires-2 : tie.Need-unfit-requires-2
+unfit-requires-2 c κs = search needs
+
+-- src/back.rt:80:9
+same-length-3 : tie.Need-same-length-3
+same-length-3 c = search needs
+
+-- src/back.rt:80:9
+same-length-4 : tie.Need-same-length-4
+same-length-4 c = search needs
+
+-- src/back.rt:80:9
+returns-2 : tie.Need-returns-2
+returns-2 c = ?
+
+-- src/back.rt:82:14
+sub-k : tie.Need-sub-k
+sub-k c = search needs
+
+-- src/back.rt:82:13
+cast-k : tie.Need-cast-k
+cast-k c = search needs
+
+-- src/back.rt:83:5
+mul-after : tie.Need-mul-after
+mul-after c = search needs
+
+-- src/back.rt:83:5
+slice-write-after : tie.Need-slice-write-after
+slice-write-after c = search needs
+
+-- src/back.rt:84:14
+sub-j : tie.Need-sub-j
+sub-j c = ?
+
+-- src/back.rt:84:14
+sub-j-2 : tie.Need-sub-j-2
+sub-j-2 c = ?
+
+-- src/back.rt:84:13
+cast-j : tie.Need-cast-j
+cast-j c = search needs
+
+-- src/back.rt:85:13
+mul-w : tie.Need-mul-w
+mul-w c = search needs
+
+-- src/back.rt:85:13
+slice-read-w : tie.Need-slice-read-w
+slice-read-w c = ?
+
+-- src/back.rt:86:5
+mul-tail : tie.Need-mul-tail
+mul-tail c = search needs
+
+-- src/back.rt:86:5
+slice-write-tail : tie.Need-slice-write-tail
+slice-write-tail c = ?
+
+-- src/back.rt:87:5
+mul-after-2 : tie.Need-mul-after-2
+mul-after-2 c = search needs
+
+-- src/back.rt:87:5
+slice-write-after-2 : tie.Need-slice-write-after-2
+slice-write-after-2 c = ?
+
+-- src/back.rt:88:5
+write-two-requires : tie.Need-write-two-requires
+write-two-requires c κs = search needs
+
+-- src/back.rt:97:15
+add-t23 : tie.Need-add-t23
+add-t23 c = search needs
+
+-- src/back.rt:66:1
+same-length-5 : tie.Need-same-length-5
+same-length-5 c = search needs
+
+-- src/back.rt:66:1
+same-length-6 : tie.Need-same-length-6
+same-length-6 c = search needs
+
+-- src/back.rt:66:1
+same-length-7 : tie.Need-same-length-7
+same-length-7 c = search needs
+
+-- src/back.rt:66:1
+returns-3 : tie.Need-returns-3
+returns-3 c = ?
+
+pub retreat-spec : {M : Type 1} → statement M
+retreat-spec =
+    tie.close
+    (tie.spec
+    tree-edge-requires
+    unfit-requires
+    same-length
+    same-length-2
+    returns
+    sub-i
+    cast-i
+    mul-k
+    slice-read-k
+    is-link-requires
+    unfit-requires-2
+    same-length-3
+    same-length-4
+    returns-2
+    sub-k
+    cast-k
+    mul-after
+    slice-write-after
+    sub-j
+    sub-j-2
+    cast-j
+    mul-w
+    slice-read-w
+    mul-tail
+    slice-write-tail
+    mul-after-2
+    slice-write-after-2
+    write-two-requires
+    add-t23
+    same-length-5
+    same-length-6
+    same-length-7
+    returns-3)

@@ -1,0 +1,115 @@
+use borrow.Author.Needs.{needs}
+use Rattle.folded.proofs.moves.go_back.Statement.{statement}
+use Rattle.folded.proofs.moves.go_back.Tie as tie
+use Rattle.folded.proofs.moves.go_back.Reads as reads
+use Rattle.folded.proofs.moves.go_back.Lts as lts
+use Rattle.folded.proofs.back.finish.Reads as finish-reads
+use Rattle.folded.proofs.back.relink.Reads as relink-reads
+use Rattle.folded.proofs.back.retreat.Reads as retreat-reads
+use Rattle.folded.proofs.back.undo_open.Reads as undo-open-reads
+use Rattle.folded.proofs.back.undo_tree.Reads as undo-tree-reads
+
+-- src/moves.rt:32:9
+relink-requires : tie.Need-relink-requires
+relink-requires c κs = search needs
+
+-- src/moves.rt:32:9
+same-length : tie.Need-same-length
+same-length c = search needs
+
+-- src/moves.rt:32:9
+returns : tie.Need-returns
+returns c = ?
+
+-- src/moves.rt:36:13
+undo-open-requires : tie.Need-undo-open-requires
+undo-open-requires c κs = search needs
+
+-- src/moves.rt:36:13
+same-length-2 : tie.Need-same-length-2
+same-length-2 c = search needs
+
+-- src/moves.rt:36:13
+same-length-3 : tie.Need-same-length-3
+same-length-3 c = search needs
+
+-- src/moves.rt:36:13
+returns-2 : tie.Need-returns-2
+returns-2 c = ?
+
+-- src/moves.rt:38:9
+undo-tree-requires : tie.Need-undo-tree-requires
+undo-tree-requires c κs = ?
+
+-- src/moves.rt:38:9
+same-length-4 : tie.Need-same-length-4
+same-length-4 c = search needs
+
+-- src/moves.rt:38:9
+same-length-5 : tie.Need-same-length-5
+same-length-5 c = search needs
+
+-- src/moves.rt:38:9
+returns-3 : tie.Need-returns-3
+returns-3 c = ?
+
+-- src/moves.rt:41:9
+finish-requires : tie.Need-finish-requires
+finish-requires c κs = search needs
+
+-- src/moves.rt:41:9
+same-length-6 : tie.Need-same-length-6
+same-length-6 c = search needs
+
+-- src/moves.rt:41:9
+same-length-7 : tie.Need-same-length-7
+same-length-7 c = search needs
+
+-- src/moves.rt:41:9
+returns-4 : tie.Need-returns-4
+returns-4 c = ?
+
+-- src/moves.rt:43:5
+retreat-requires : tie.Need-retreat-requires
+retreat-requires c κs = ?
+
+-- src/moves.rt:19:1
+same-length-8 : tie.Need-same-length-8
+same-length-8 c = search needs
+
+-- src/moves.rt:19:1
+same-length-9 : tie.Need-same-length-9
+same-length-9 c = search needs
+
+-- src/moves.rt:19:1
+same-length-10 : tie.Need-same-length-10
+same-length-10 c = search needs
+
+-- src/moves.rt:19:1
+returns-5 : tie.Need-returns-5
+returns-5 c = ?
+
+pub go-back-spec : {M : Type 1} → statement M
+go-back-spec =
+    tie.close
+    (tie.spec
+    relink-requires
+    same-length
+    returns
+    undo-open-requires
+    same-length-2
+    same-length-3
+    returns-2
+    undo-tree-requires
+    same-length-4
+    same-length-5
+    returns-3
+    finish-requires
+    same-length-6
+    same-length-7
+    returns-4
+    retreat-requires
+    same-length-8
+    same-length-9
+    same-length-10
+    returns-5)

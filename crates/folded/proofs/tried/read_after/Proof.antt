@@ -1,0 +1,33 @@
+use borrow.Author.Needs.{needs}
+use Rattle.folded.proofs.tried.read_after.Statement.{statement}
+use Rattle.folded.proofs.tried.read_after.Tie as tie
+use Rattle.folded.proofs.tried.read_after.Reads as reads
+use Rattle.folded.proofs.tried.read_after.Lts as lts
+
+-- src/tried.rt:47:9
+returns : tie.Need-returns
+returns c = ?
+
+-- src/tried.rt:49:14
+sub-i : tie.Need-sub-i
+sub-i c = search needs
+
+-- src/tried.rt:49:13
+cast-i : tie.Need-cast-i
+cast-i c = search needs
+
+-- src/tried.rt:50:5
+mul-result : tie.Need-mul-result
+mul-result c = search needs
+
+-- src/tried.rt:50:5
+shared-slice-read-result : tie.Need-shared-slice-read-result
+shared-slice-read-result c = search needs
+
+-- src/tried.rt:42:1
+returns-2 : tie.Need-returns-2
+returns-2 c = ?
+
+pub read-after-spec : {M : Type 1} → statement M
+read-after-spec =
+    tie.close (tie.spec returns sub-i cast-i mul-result shared-slice-read-result returns-2)
