@@ -1,0 +1,2 @@
+-- What a script of calls says, and what it leaves.
+pub mod Script

@@ -1,0 +1,95 @@
+-- Demand 3 of the calls themselves (document 01, "Agreement of the two lines"). Line A is one call of `dfs_recursive`; line B is an `open`
+-- and a list of `run`, `step` and `roll_back`, each on the state, links and marks that the one before it left. What a caller sees of each
+-- call is what its promise says (`seenOf (serve ..)`); nothing else is known of the code.
+use mathlib.Core.Path.{_≡_}
+use mathlib.Core.Logic.{_↔_, _≢_, _⊎_}
+use mathlib.Core.Bool.{Bool, true, false, _||_}
+use mathlib.Core.List.{List, [], _∷_, _++_, IsPrefix}
+use Prim.Native.Nat.{ℕ, _+_, _*_, _≤_, _<_}
+use lib.ListN.{length, take}
+use Rattle.lists.specs.Counts.{sumOf}
+use Rattle.graphs.specs.Graph.{Reached, met}
+use Rattle.graphs.specs.Events.{words}
+use Rattle.graphs.specs.Image.{Image, graphOf}
+use Rattle.walks.specs.Promises.{walkNumber, depthWalk}
+use Rattle.folding.specs.Machine.{Config, finished, rolledBack}
+use Rattle.folding.specs.Calls.{Answer, Call, serve, opening, openNumber}
+use Rattle.folding.specs.Lines.{Line, lineA, lineB, folded, orders, addIf}
+use Rattle.folding.specs.Claims.{Faultless}
+use Rattle.states.specs.Answers.{Seen, seenOf}
+use Rattle.walkers.specs.Claims.{Promised}
+
+-- ---- line A
+-- The event words that a walk has written, by its tally.
+abbrev pub toldBy : (t events : List ℕ) → List ℕ
+toldBy t events = take (3 * sumOf (λ k. k) t) events
+
+-- The promise of the recursive walker gives line A: its event words are those of the definition over which demand 3 is proved.
+abbrev pub LineAClaim : Type 0
+LineAClaim = (g : Image) (start : ℕ) (marks events t marks′ events′ : List ℕ) → Promised 0 (g .n + g .m) (depthWalk g start) marks events t marks′ events′ → toldBy t events′ ≡ words (lineA g start)
+
+-- ---- line B
+-- A list of calls and what was seen of each: every promise is kept, on what the call before left.
+abbrev pub Kept : Config → List Call → List Seen → Type 0
+Kept w [] [] = Unit {0}
+Kept w [] (s ∷ ss) = ⊥
+Kept w (c ∷ cs) [] = ⊥
+Kept w (c ∷ cs) (s ∷ ss) = (s ≡ seenOf (serve w c)) × Kept (s .config) cs ss
+
+-- What a caller of line B adds up from the answers and areas alone.
+pub record Account : Type 0 where
+  pub config : Config
+  pub told : List ℕ
+  pub steps : ℕ
+  pub rolling : Bool
+  pub since : ℕ
+  pub answers : List Answer
+
+-- The event words that a call has written.
+abbrev pub written : Seen → List ℕ
+written s = take (3 * s .count) (s .area)
+
+-- After the opening; after one call more; after a list of them.
+abbrev pub opened : Seen → Account
+opened s = record { config = s .config; told = written s; steps = 0; rolling = false; since = 0; answers = s .answer ∷ [] }
+
+abbrev pub added : Account → Call → Seen → Account
+added a c s = record { config = s .config; told = a .told ++ written s; steps = a .steps + s .steps; rolling = a .rolling || orders c (s .answer); since = addIf (a .rolling) (a .since) (s .steps); answers = s .answer ∷ a .answers }
+
+abbrev pub account : Account → List Call → List Seen → Account
+account a [] ss = a
+account a (c ∷ cs) [] = a
+account a (c ∷ cs) (s ∷ ss) = account (added a c s) cs ss
+
+-- The account of a line as defined.
+abbrev pub accountOf : Line → Account
+accountOf l = record { config = l .config; told = words (l .events); steps = l .steps; rolling = l .rolling; since = l .since; answers = l .answers }
+
+-- Folding the promises over any list of calls, refused ones included, from any opening, is line B.
+abbrev pub TieClaim : Type 0
+TieClaim = (g : Image) (start : ℕ) (marks area : List ℕ) (o : Seen) → o ≡ seenOf (opening g start marks area) → (cs : List Call) (ss : List Seen) → Kept (o .config) cs ss
+    → account (opened o) cs ss ≡ accountOf (lineB folded g start marks area cs)
+
+-- ---- the two lines
+-- Line B's account beside line A's event words; vs are the elements reached, in any order.
+pub record Agree (g : Image) (start : ℕ) (vs : List ℕ) (lineAWords : List ℕ) (b : Account) : Type 0 where
+  -- B's event words are the first of A's.
+  pub first : IsPrefix (b .told) lineAWords
+  -- While no roll-back order was taken, B has ended exactly when its steps are twice the references met plus the elements reached.
+  pub ends : b .rolling ≡ false → (b .config .phase ≡ finished) ↔ (b .steps ≡ 2 * met (graphOf g) vs + length vs)
+  -- Its event words are then all of A's.
+  pub all : b .rolling ≡ false → b .config .phase ≡ finished → b .told ≡ lineAWords
+  -- Once one was taken, the steps since the first are at most the references met plus the elements reached; fewer while B is not rolled back.
+  pub bound : b .rolling ≡ true → b .since ≤ met (graphOf g) vs + length vs
+  pub below : b .rolling ≡ true → b .config .phase ≢ rolledBack → b .since < met (graphOf g) vs + length vs
+  -- Whenever B has ended or is rolled back, every link is as loaded.
+  pub restored : (b .config .phase ≡ finished) ⊎ (b .config .phase ≡ rolledBack) → (b .config .after ≡ g .after) × (b .config .tail ≡ g .tail)
+  -- No call was refused with 8, and no run said stuck.
+  pub faultless : Faultless (b .answers)
+
+-- Demand 3: one call of `dfs_recursive` that is taken, on areas of its own; one opening that is taken; any list of calls.
+abbrev pub TwoLinesClaim : Type 0
+TwoLinesClaim = (g : Image) (start : ℕ) (marksA eventsA t marksA′ eventsA′ : List ℕ) → walkNumber g start marksA eventsA [] ≡ 0 → Promised 0 (g .n + g .m) (depthWalk g start) marksA eventsA t marksA′ eventsA′
+    → (marks area : List ℕ) → openNumber g start marks area ≡ 0 → (o : Seen) → o ≡ seenOf (opening g start marks area)
+    → (cs : List Call) (ss : List Seen) → Kept (o .config) cs ss
+    → (vs : List ℕ) → Reached (graphOf g) [] start vs → Agree g start vs (toldBy t eventsA′) (account (opened o) cs ss)
