@@ -21,7 +21,7 @@ use Rattle.graphs.specs.Results.{lastTree, entry, parentWord, parentLeft}
 use Rattle.graphs.specs.Claims.{Ready}
 use Rattle.graphs.specs.Refusals.{lent}
 use Rattle.graphs.proofs.Refusals.{long}
-use Rattle.graphs.proofs.Sound.{head0, Linked, Sound}
+use Rattle.graphs.proofs.Sound.{head0, Linked, linked-rest, Sound}
 use Rattle.graphs.proofs.Places.{Frame, frame, entering, path, Above, walk, of-rest}
 use Rattle.graphs.proofs.Room.{profile-ready}
 use Rattle.graphs.proofs.Trees.{AllTrees, all-trees}
@@ -94,10 +94,6 @@ module _ (G : Graph) (h : History) (r v x : ℕ) (is : G .to r ≡ x) (new : Mem
         ∙ ap (λ (ws : List ℕ). ws ++ drop (G .size) area) (values-same (but (parentWord G h) x (entry G h v .0)) (parentWord G treed) 0 (G .size) (λ y a b. word-tree y))
 
 -- ---- lists of a sound image
-linked-rest : (after done rest : List ℕ) → Linked after (reverseAux done rest) → Linked after rest
-linked-rest after [] rest h = h
-linked-rest after (d ∷ ds) rest h = linked-rest after ds (d ∷ rest) h .1
-
 module _ {g : Image} (S : Sound g) where
   -- The first edge of u, and the edge after r, as the code reads them.
   first-word : (u : ℕ) → Vertex (g .n) u → getD (g .after) (u - 1) 0 ≡ head0 (edgesOf g u)

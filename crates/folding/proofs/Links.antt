@@ -12,7 +12,7 @@ use Rattle.lists.proofs.Members.{Split, split}
 use Rattle.lists.proofs.Words.{length-put, put-comm, at-other}
 use Rattle.graphs.specs.Nodes.{Vertex, Edge}
 use Rattle.graphs.specs.Image.{Image, edgesOf, to, graphOf}
-use Rattle.graphs.proofs.Sound.{head0, Linked, Sound}
+use Rattle.graphs.proofs.Sound.{head0, Linked, linked-rest, Sound}
 use Rattle.graphs.proofs.Owned.{image-owned}
 use Rattle.graphs.proofs.Places.{Frame, frame, parent, path, Above, Placed, of-done, of-rest}
 use Rattle.graphs.proofs.Tails.{tails-length, tails-kept}
@@ -41,10 +41,6 @@ length-bentAfter g (frame u du r ru ∷ s) = length-bend du (parent s) (put 0 (b
 
 pub length-bentTail : (g : Image) (s : List Frame) → length (bentTail g s) ≡ length (g .tail)
 length-bentTail g s = tails-length (λ du fs. top du (parent fs)) (g .n) (g .tail) s
-
-linked-rest : (after done rest : List ℕ) → Linked after (reverseAux done rest) → Linked after rest
-linked-rest after [] rest h = h
-linked-rest after (d ∷ ds) rest h = linked-rest after ds (d ∷ rest) h .1
 
 module _ (g : Image) (S : Sound g) (start : ℕ) where
   pub clean : (s : List Frame) (v : ℕ) → Above (graphOf g) start s v → (x : ℕ) → 0 < x → (Mem (S .owner x) (path s) → ⊥) → at 0 (bentAfter g s) x ≡ at 0 (g .after) x

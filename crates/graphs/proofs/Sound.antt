@@ -3,7 +3,7 @@
 use mathlib.Core.Path.{_≡_, refl, sym, ap, _∙_, subst}
 use mathlib.Core.Logic.{_⊎_, inl, inr}
 use mathlib.Core.Bool.{Bool, true, false, cond}
-use mathlib.Core.List.{List, [], _∷_, _++_}
+use mathlib.Core.List.{List, [], _∷_, _++_, reverseAux}
 use Prim.Native.Nat.{ℕ, zero, suc, _+_, _-_, _≤_, _<_}
 use native.Mathlib.Omega.{arith}
 use lib.ListN.{length, getD}
@@ -30,6 +30,11 @@ head0 (x ∷ l) = x
 abbrev pub Linked : List ℕ → List ℕ → Type 0
 Linked after [] = Unit {0}
 Linked after (r ∷ rs) = (at 0 after r ≡ head0 rs) × Linked after rs
+
+-- What is ahead on a linked list is linked.
+pub linked-rest : (after done rest : List ℕ) → Linked after (reverseAux done rest) → Linked after rest
+linked-rest after [] rest h = h
+linked-rest after (d ∷ ds) rest h = linked-rest after ds (d ∷ rest) h .1
 
 -- `owner` of a node: the vertex on whose list it stands; a vertex owns itself.
 pub record Sound (g : Image) : Type 0 where

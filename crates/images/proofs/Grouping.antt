@@ -9,7 +9,7 @@ use lib.ListN.{length, getD, set, length-append, length-map}
 use borrow.Author.Tests.{le-ltb}
 use Rattle.lists.specs.Members.{Mem, here, there}
 use Rattle.lists.specs.Words.{at, overlay, pasted, valuesFrom}
-use Rattle.lists.proofs.Words.{length-values, values-append, pasted-front, pasted-none, pasted-next, pasted-pasted, length-pasted}
+use Rattle.lists.proofs.Words.{read-past, length-values, values-append, pasted-front, pasted-none, pasted-next, pasted-pasted, length-pasted}
 use Rattle.graphs.specs.Nodes.{Edge}
 use Rattle.graphs.specs.Image.{Image, edgesOf, to, listsTo}
 use Rattle.graphs.specs.ArrayForm.{arrayOf, numbersOf}
@@ -20,11 +20,6 @@ use Rattle.graphs.proofs.Arrays.{lists-few}
 use Rattle.images.specs.Arrays.{convertedAreas, convertNumber}
 use Rattle.images.specs.Grouping.{CanList, CanGroup}
 use Rattle.images.proofs.Arrays.{read-at}
-
--- The word of r in an area that begins with node n + 1, as the code reads it.
-read-past : (n r : ℕ) (l : List ℕ) → at n l r ≡ getD l (r - n - 1) 0
-unfolding at
-read-past n r l = let e : r - suc n ≡ r - n - 1 = omega arith in ap (λ (i : ℕ). getD l i 0) e
 
 -- A word stored at position q, behind the words pasted from position p on.
 store : (p q w : ℕ) (area ws now : List ℕ) → now ≡ pasted (p - 1) ws area → 1 ≤ p → q ≡ p + length ws → q ≤ length area → set now (q - 1) w ≡ pasted (p - 1) (ws ++ (w ∷ [])) area
@@ -143,7 +138,7 @@ module _ {g : Image} {u : ℕ} {tails₀ numbers₀ : List ℕ} {p : ℕ} (H : C
             next = sym (read-at (g .after) r) ∙ links .0;
             place = omega (arith, L .place, length-append (L .done) (r ∷ []));
             tails-so =
-                ap (λ (w : ℕ). set tails (q - 1) w) (sym (read-past (g .n) r (g .tail)))
+                ap (λ (w : ℕ). set tails (q - 1) w) (sym (read-past (g .n) (g .tail) r))
                 ∙ store p q (to g r) tails₀ (map (to g) (L .done)) tails (L .tails-so) (H .first) (omega (arith, L .place, length-map (L .done) (to g))) (omega (arith, H .long-tails))
                 ∙ ap (λ (l : List ℕ). pasted (p - 1) l tails₀) (sym (map-append (to g) (L .done) (r ∷ [])));
             numbers-so = store p q r numbers₀ (L .done) numbers (L .numbers-so) (H .first) (L .place) (omega (arith, H .long-numbers));

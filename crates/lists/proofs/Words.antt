@@ -14,6 +14,11 @@ use borrow.Author.Tests.{ne-eqb}
 use Rattle.lists.specs.Words.{at, put, overlay, pasted, cleared, valuesFrom, filled}
 use Rattle.lists.proofs.Tests.{Compared, equal, other, compare}
 
+-- The word of node r in an area that begins with node n + 1, as code reads it: by place.
+pub read-past : (n : ℕ) (area : List ℕ) (r : ℕ) → at n area r ≡ getD area (r - n - 1) 0
+unfolding at
+read-past n area r = let e : r - suc n ≡ r - n - 1 = omega arith in ap (λ (i : ℕ). getD area i 0) e
+
 module _ (b : ℕ) where
   pub length-put : (area : List ℕ) (x w : ℕ) → length (put b area x w) ≡ length area
   unfolding put

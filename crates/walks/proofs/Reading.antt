@@ -1,16 +1,9 @@
 -- Words as the code reads them: by place, where a definition reads them by node.
-use mathlib.Core.Path.{_≡_, ap}
-use mathlib.Core.List.{List}
-use Prim.Native.Nat.{ℕ, suc, _-_}
-use native.Mathlib.Omega.{arith}
+use mathlib.Core.Path.{_≡_}
+use Prim.Native.Nat.{ℕ, _-_}
 use lib.ListN.{getD}
-use Rattle.lists.specs.Words.{at}
+use Rattle.lists.proofs.Words.{read-past}
 use Rattle.graphs.specs.Image.{Image, to}
-
--- The word of node r in an area that begins with node n + 1.
-pub read-past : (n : ℕ) (l : List ℕ) (r : ℕ) → at n l r ≡ getD l (r - n - 1) 0
-unfolding at
-read-past n l r = let e : r - suc n ≡ r - n - 1 = omega arith in ap (λ (i : ℕ). getD l i 0) e
 
 -- The vertex that r leads to.
 abbrev pub target : Image → ℕ → ℕ

@@ -1,3 +1,6 @@
+use mathlib.Core.Path.{_∙_}
+use Rattle.states.specs.Answers.{configOf}
+use Rattle.folded.proofs.Backs.{finish-out, finish-made}
 use borrow.Author.Needs.{needs}
 use Rattle.folded.proofs.back.finish.Statement.{statement}
 use Rattle.folded.proofs.back.finish.Tie as tie
@@ -12,7 +15,7 @@ unfit-requires c κs = search needs
 
 -- src/back.rt:109:9
 returns : tie.Need-returns
-returns c = ?
+returns c = λ tail marks. let z = c .before .before .before .before .before .args in c .unfit .ensures (z .after .now) tail marks (z .events .now) ∙ finish-out (configOf (z .s) (z .after .now) tail marks) (z .made) (z .events .now) (c .before .if1 .taken)
 
 -- src/back.rt:111:14
 sub-i : tie.Need-sub-i
@@ -48,7 +51,7 @@ same-length-2 c = search needs
 
 -- src/back.rt:103:1
 returns-2 : tie.Need-returns-2
-returns-2 c = ?
+returns-2 c = λ tail marks. let z = c .before .before .before .before .before .before .before .before .args in finish-made (configOf (z .s) (z .after .now) tail marks) (z .made) (z .events .now) (c .before .before .before .before .if1 .left) (c .before .before .write-one .ensures)
 
 pub finish-spec : {M : Type 1} → statement M
 finish-spec =

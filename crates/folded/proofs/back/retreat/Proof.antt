@@ -1,3 +1,11 @@
+use mathlib.Core.Path.{sym, _∙_}
+use mathlib.Core.List.{[]}
+use Prim.Native.Nat.{_-_}
+use native.Mathlib.Omega.{arith}
+use lib.ListN.{length-set}
+use borrow.Author.Tests.{not-true, not-false}
+use Rattle.states.specs.Answers.{configOf}
+use Rattle.folded.proofs.Backs.{upward-is, retreat-out, retreat-barred, retreat-made}
 use borrow.Author.Needs.{needs}
 use Rattle.folded.proofs.back.retreat.Statement.{statement}
 use Rattle.folded.proofs.back.retreat.Tie as tie
@@ -26,7 +34,7 @@ same-length-2 c = search needs
 
 -- src/back.rt:75:9
 returns : tie.Need-returns
-returns c = ?
+returns c = λ marks. let z = c .before .before .before .before .before .before .before .before .args in c .unfit .ensures (z .after .now) (z .tail .now) marks (z .events .now) ∙ retreat-out (configOf (z .s) (z .after .now) (z .tail .now) marks) (z .made) (z .events .now) (c .before .before .tree-edge .ensures marks) (c .before .if1 .taken)
 
 -- src/back.rt:77:14
 sub-i : tie.Need-sub-i
@@ -42,7 +50,7 @@ mul-k c = search needs
 
 -- src/back.rt:78:18
 slice-read-k : tie.Need-slice-read-k
-slice-read-k c = ?
+slice-read-k c = let z = c .before .before .before .before .before .before .before .before .args in let U = upward-is (configOf (z .s) (z .after .now) (z .tail .now) []) (c .before .before .tree-edge .ensures []) (c .before .if1 .left) in omega (arith, U .low, U .high, c .before .before .before .before .before .before .before .before .pre .0 .long-after)
 
 -- src/back.rt:79:9
 is-link-requires : tie.Need-is-link-requires
@@ -62,7 +70,7 @@ same-length-4 c = search needs
 
 -- src/back.rt:80:9
 returns-2 : tie.Need-returns-2
-returns-2 c = ?
+returns-2 c = λ marks. let z = c .before .before .before .before .before .before .before .before .before .before .before .args in let R = c .before .before .before .before .before .before .before .before .before .before .before .pre .0 in let w = configOf (z .s) (z .after .now) (z .tail .now) marks in c .unfit2 .ensures (z .after .now) (z .tail .now) marks (z .events .now) ∙ retreat-barred w (z .made) (z .events .now) (upward-is w (c .before .before .before .before .before .tree-edge .ensures marks) (c .before .before .before .before .if1 .left)) (R .v-low) (R .v-high) (sym (c .before .before .is-link .ensures) ∙ not-true (c .before .before .is-link .result) (c .before .if2 .taken))
 
 -- src/back.rt:82:14
 sub-k : tie.Need-sub-k
@@ -82,11 +90,11 @@ slice-write-after c = search needs
 
 -- src/back.rt:84:14
 sub-j : tie.Need-sub-j
-sub-j c = ?
+sub-j c = let z = c .before .before .before .before .before .before .before .before .before .before .args in let U = upward-is (configOf (z .s) (z .after .now) (z .tail .now) []) (c .before .before .before .before .tree-edge .ensures []) (c .before .before .before .if1 .left) in omega (arith, U .low)
 
 -- src/back.rt:84:14
 sub-j-2 : tie.Need-sub-j-2
-sub-j-2 c = ?
+sub-j-2 c = let z = c .before .before .before .before .before .before .before .before .before .before .args in let U = upward-is (configOf (z .s) (z .after .now) (z .tail .now) []) (c .before .before .before .before .tree-edge .ensures []) (c .before .before .before .if1 .left) in omega (arith, U .low)
 
 -- src/back.rt:84:13
 cast-j : tie.Need-cast-j
@@ -98,7 +106,7 @@ mul-w c = search needs
 
 -- src/back.rt:85:13
 slice-read-w : tie.Need-slice-read-w
-slice-read-w c = ?
+slice-read-w c = let z = c .before .before .before .before .before .before .before .before .before .before .before .args in let U = upward-is (configOf (z .s) (z .after .now) (z .tail .now) []) (c .before .before .before .before .before .tree-edge .ensures []) (c .before .before .before .before .if1 .left) in omega (arith, U .low, U .high, c .before .before .before .before .before .before .before .before .before .before .before .pre .0 .long-tail)
 
 -- src/back.rt:86:5
 mul-tail : tie.Need-mul-tail
@@ -106,7 +114,7 @@ mul-tail c = search needs
 
 -- src/back.rt:86:5
 slice-write-tail : tie.Need-slice-write-tail
-slice-write-tail c = ?
+slice-write-tail c = let z = c .before .before .before .before .before .before .before .before .before .before .before .args in let U = upward-is (configOf (z .s) (z .after .now) (z .tail .now) []) (c .before .before .before .before .before .tree-edge .ensures []) (c .before .before .before .before .if1 .left) in omega (arith, U .low, U .high, c .before .before .before .before .before .before .before .before .before .before .before .pre .0 .long-tail)
 
 -- src/back.rt:87:5
 mul-after-2 : tie.Need-mul-after-2
@@ -114,7 +122,7 @@ mul-after-2 c = search needs
 
 -- src/back.rt:87:5
 slice-write-after-2 : tie.Need-slice-write-after-2
-slice-write-after-2 c = ?
+slice-write-after-2 c = let z = c .before .before .before .before .before .before .before .before .before .before .before .args in let U = upward-is (configOf (z .s) (z .after .now) (z .tail .now) []) (c .before .before .before .before .before .tree-edge .ensures []) (c .before .before .before .before .if1 .left) in omega (arith, U .low, U .high, c .before .before .before .before .before .before .before .before .before .before .before .pre .0 .long-after, length-set (z .after .now) (z .s .v .0 - 1) (z .s .e .0))
 
 -- src/back.rt:88:5
 write-two-requires : tie.Need-write-two-requires
@@ -138,7 +146,7 @@ same-length-7 c = search needs
 
 -- src/back.rt:66:1
 returns-3 : tie.Need-returns-3
-returns-3 c = ?
+returns-3 c = λ marks. let z = c .before .before .before .before .before .before .before .before .before .before .before .before .before .before .before .args in let R = c .before .before .before .before .before .before .before .before .before .before .before .before .before .before .before .pre .0 in let w = configOf (z .s) (z .after .now) (z .tail .now) marks in retreat-made w (z .made) (z .events .now) (upward-is w (c .before .before .before .before .before .before .before .before .before .tree-edge .ensures marks) (c .before .before .before .before .before .before .before .before .if1 .left)) (R .v-low) (R .v-high) (sym (c .before .before .before .before .before .before .is-link .ensures) ∙ not-false (c .before .before .before .before .before .before .is-link .result) (c .before .before .before .before .before .if2 .left)) (c .before .before .write-two .ensures)
 
 pub retreat-spec : {M : Type 1} → statement M
 retreat-spec =

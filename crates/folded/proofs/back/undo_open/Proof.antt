@@ -1,3 +1,6 @@
+use mathlib.Core.Path.{_∙_}
+use Rattle.states.specs.Answers.{configOf}
+use Rattle.folded.proofs.Backs.{undo-open-out, undo-open-made}
 use borrow.Author.Needs.{needs}
 use Rattle.folded.proofs.back.undo_open.Statement.{statement}
 use Rattle.folded.proofs.back.undo_open.Tie as tie
@@ -12,7 +15,7 @@ unfit-requires c κs = search needs
 
 -- src/back.rt:159:9
 returns : tie.Need-returns
-returns c = ?
+returns c = λ tail area. let z = c .before .before .before .before .before .args in c .unfit .ensures (z .after .now) tail (z .marks .now) area ∙ undo-open-out (configOf (z .s) (z .after .now) tail (z .marks .now)) (z .made) area (c .before .if1 .taken)
 
 -- src/back.rt:161:14
 sub-i : tie.Need-sub-i
@@ -48,7 +51,7 @@ same-length-2 c = search needs
 
 -- src/back.rt:153:1
 returns-2 : tie.Need-returns-2
-returns-2 c = ?
+returns-2 c = λ tail area. let z = c .before .before .before .before .before .before .before .before .before .args in undo-open-made (configOf (z .s) (z .after .now) tail (z .marks .now)) (z .made) area (c .before .before .before .before .before .if1 .left) (c .before .before .before .before .before .before .before .before .before .pre .2) (c .before .before .clear .ensures)
 
 pub undo-open-spec : {M : Type 1} → statement M
 undo-open-spec =

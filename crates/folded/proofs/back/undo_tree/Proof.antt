@@ -1,3 +1,8 @@
+use mathlib.Core.Path.{_∙_}
+use mathlib.Core.List.{[]}
+use native.Mathlib.Omega.{arith}
+use Rattle.states.specs.Answers.{configOf}
+use Rattle.folded.proofs.Backs.{upward-is, undo-tree-out, undo-tree-made}
 use borrow.Author.Needs.{needs}
 use Rattle.folded.proofs.back.undo_tree.Statement.{statement}
 use Rattle.folded.proofs.back.undo_tree.Tie as tie
@@ -24,7 +29,7 @@ same-length-2 c = search needs
 
 -- src/back.rt:132:9
 returns : tie.Need-returns
-returns c = ?
+returns c = λ marks area. let z = c .before .before .before .before .before .before .before .args in c .unfit .ensures (z .after .now) (z .tail .now) marks area ∙ undo-tree-out (configOf (z .s) (z .after .now) (z .tail .now) marks) (z .made) area (c .before .before .tree-edge .ensures marks) (c .before .if1 .taken)
 
 -- src/back.rt:134:14
 sub-k : tie.Need-sub-k
@@ -44,11 +49,11 @@ slice-write-after c = search needs
 
 -- src/back.rt:136:14
 sub-j : tie.Need-sub-j
-sub-j c = ?
+sub-j c = let z = c .before .before .before .before .before .before .args in let U = upward-is (configOf (z .s) (z .after .now) (z .tail .now) []) (c .before .tree-edge .ensures []) (c .if1 .left) in omega (arith, U .low)
 
 -- src/back.rt:136:14
 sub-j-2 : tie.Need-sub-j-2
-sub-j-2 c = ?
+sub-j-2 c = let z = c .before .before .before .before .before .before .args in let U = upward-is (configOf (z .s) (z .after .now) (z .tail .now) []) (c .before .tree-edge .ensures []) (c .if1 .left) in omega (arith, U .low)
 
 -- src/back.rt:136:13
 cast-j : tie.Need-cast-j
@@ -60,7 +65,7 @@ mul-w c = search needs
 
 -- src/back.rt:137:13
 slice-read-w : tie.Need-slice-read-w
-slice-read-w c = ?
+slice-read-w c = let z = c .before .before .before .before .before .before .before .args in let U = upward-is (configOf (z .s) (z .after .now) (z .tail .now) []) (c .before .before .tree-edge .ensures []) (c .before .if1 .left) in omega (arith, U .low, U .high, c .before .before .before .before .before .before .before .pre .0 .long-tail)
 
 -- src/back.rt:138:5
 mul-tail : tie.Need-mul-tail
@@ -68,7 +73,7 @@ mul-tail c = search needs
 
 -- src/back.rt:138:5
 slice-write-tail : tie.Need-slice-write-tail
-slice-write-tail c = ?
+slice-write-tail c = let z = c .before .before .before .before .before .before .before .args in let U = upward-is (configOf (z .s) (z .after .now) (z .tail .now) []) (c .before .before .tree-edge .ensures []) (c .before .if1 .left) in omega (arith, U .low, U .high, c .before .before .before .before .before .before .before .pre .0 .long-tail)
 
 -- src/back.rt:124:1
 same-length-3 : tie.Need-same-length-3
@@ -80,7 +85,7 @@ same-length-4 c = search needs
 
 -- src/back.rt:124:1
 returns-2 : tie.Need-returns-2
-returns-2 c = ?
+returns-2 c = λ marks area. let z = c .before .before .before .before .before .before .before .args in let w = configOf (z .s) (z .after .now) (z .tail .now) marks in undo-tree-made w (z .made) area (upward-is w (c .before .before .tree-edge .ensures marks) (c .before .if1 .left))
 
 pub undo-tree-spec : {M : Type 1} → statement M
 undo-tree-spec =

@@ -1,3 +1,14 @@
+use mathlib.Core.Path.{_≡_, sym, _∙_}
+use mathlib.Core.Bool.{true}
+use Prim.Native.Nat.{_-_}
+use native.Mathlib.Omega.{arith}
+use lib.ListN.{getD}
+use borrow.Author.Tests.{not-true, not-false}
+use Rattle.graphs.specs.Nodes.{Vertex, isVertex}
+use Rattle.graphs.proofs.Nodes.{vertex-is}
+use Rattle.lists.proofs.Words.{read-past}
+use Rattle.states.specs.Answers.{configOf}
+use Rattle.folded.proofs.Forwards.{target-vertex, onward-unfit, onward-tree, onward-nontree}
 use borrow.Author.Needs.{needs}
 use Rattle.folded.proofs.forward.advance.Statement.{statement}
 use Rattle.folded.proofs.forward.advance.Tie as tie
@@ -7,6 +18,16 @@ use Rattle.folded.proofs.forward.nontree.Reads as nontree-reads
 use Rattle.folded.proofs.forward.tree.Reads as tree-reads
 use Rattle.folded.proofs.tried.unfit.Reads as unfit-reads
 use Rattle.images.proofs.is_vertex.Reads as is-vertex-reads
+
+-- Past the test t(e) is a vertex.
+abbrev Past : Type 0
+Past = lts.Else1 (is-vertex-reads.Asked, is-vertex-reads.Learnt, unfit-reads.Asked, unfit-reads.Learnt, tree-reads.Asked, tree-reads.Learnt, nontree-reads.Asked, nontree-reads.Learnt) reads.Pre reads.Post
+
+vertex : (c : Past) → let a = c .before .before .before .before .before .before .before .before .args in isVertex (a .s .n) (getD (a .tail .now) (a .s .e .0 - a .s .n - 1) 0) ≡ true
+vertex c = sym (c .before .is-vertex .ensures) ∙ not-false _ (c .if1 .left)
+
+inside : (c : Past) → let a = c .before .before .before .before .before .before .before .before .args in Vertex (a .s .n) (getD (a .tail .now) (a .s .e .0 - a .s .n - 1) 0)
+inside c = vertex-is _ _ (vertex c)
 
 -- src/forward.rt:104:14
 sub-j : tie.Need-sub-j
@@ -38,27 +59,27 @@ unfit-requires c κs = search needs
 
 -- src/forward.rt:107:9
 returns : tie.Need-returns
-returns c = ?
+returns c = let a = c .before .before .before .before .before .before .before .before .before .args in c .unfit .ensures (a .after .now) (a .tail .now) (a .marks .now) (a .events .now) ∙ sym (onward-unfit (configOf (a .s) (a .after .now) (a .tail .now) (a .marks .now)) (a .made) (a .events .now) (sym (c .before .before .is-vertex .ensures) ∙ not-true _ (c .before .if1 .taken)))
 
 -- src/forward.rt:109:14
 sub-k : tie.Need-sub-k
-sub-k c = ?
+sub-k c = inside c .0
 
 -- src/forward.rt:109:13
 cast-k : tie.Need-cast-k
-cast-k c = ?
+cast-k c = omega (arith, inside c .1, c .before .before .before .before .before .before .before .before .pre .0 .few-vertices)
 
 -- src/forward.rt:110:8
 mul-if2 : tie.Need-mul-if2
-mul-if2 c = ?
+mul-if2 c = omega (arith, inside c .1, c .before .before .before .before .before .before .before .before .pre .0 .few-vertices)
 
 -- src/forward.rt:110:8
 slice-read-if2 : tie.Need-slice-read-if2
-slice-read-if2 c = ?
+slice-read-if2 c = omega (arith, inside (c .before) .0, inside (c .before) .1, c .before .before .before .before .before .before .before .before .before .pre .0 .long-marks)
 
 -- src/forward.rt:111:9
 tree-requires : tie.Need-tree-requires
-tree-requires c κs = ?
+tree-requires c κs = let a = c .before .before .before .before .before .before .before .before .before .before .before .before .before .before .args in let p = c .before .before .before .before .before .before .before .before .before .before .before .before .before .before .pre in let h = inside (c .before .before .before .before .before .before) in (p .0, p .1, sym (read-past (a .s .n) (a .tail .now) (a .s .e .0)), h .0, h .1, p .2)
 
 -- src/forward.rt:111:9
 same-length : tie.Need-same-length
@@ -78,7 +99,7 @@ same-length-4 c = search needs
 
 -- src/forward.rt:111:9
 returns-2 : tie.Need-returns-2
-returns-2 c = ?
+returns-2 c = let a = c .before .before .before .before .before .before .before .before .before .before .before .before .before .before .before .before .before .before .before .before .before .before .before .args in onward-tree (configOf (a .s) (a .after .now) (a .tail .now) (a .marks .now)) (a .made) (a .events .now) (c .before .before .before .before .before .before .before .before .before .before .before .before .before .if2 .taken) (c .before .before .before .before .before .before .before .before .tree .ensures)
 
 -- src/forward.rt:113:5
 nontree-requires : tie.Need-nontree-requires
@@ -94,7 +115,7 @@ same-length-6 c = search needs
 
 -- src/forward.rt:92:1
 returns-3 : tie.Need-returns-3
-returns-3 c = ?
+returns-3 c = let a = c .before .before .before .before .before .before .before .before .before .before .before .before .before .before .before .before .before .args in let w = configOf (a .s) (a .after .now) (a .tail .now) (a .marks .now) in onward-nontree w (a .made) (a .events .now) (c .before .before .before .before .before .before .before .if2 .left) (c .before .before .before .before .nontree .ensures (a .tail .now) (a .marks .now) (target-vertex w (vertex (c .before .before .before .before .before .before .before .before .before))))
 
 pub advance-spec : {M : Type 1} → statement M
 advance-spec =

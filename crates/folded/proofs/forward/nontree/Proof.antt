@@ -1,3 +1,7 @@
+use mathlib.Core.Path.{sym, _∙_}
+use borrow.Author.Tests.{not-true, not-false}
+use Rattle.states.specs.Answers.{configOf}
+use Rattle.folded.proofs.Forwards.{nontree-no-link, nontree-made}
 use borrow.Author.Needs.{needs}
 use Rattle.folded.proofs.forward.nontree.Statement.{statement}
 use Rattle.folded.proofs.forward.nontree.Tie as tie
@@ -33,7 +37,7 @@ unfit-requires c κs = search needs
 
 -- src/forward.rt:76:9
 returns : tie.Need-returns
-returns c = ?
+returns c = λ tail marks vertex. let a = c .before .before .before .before .before .before .args in c .unfit .ensures (a .after .now) tail marks (a .events .now) ∙ sym (nontree-no-link (configOf (a .s) (a .after .now) tail marks) (a .made) (a .events .now) vertex (sym (c .before .before .is-link .ensures) ∙ not-true _ (c .before .if1 .taken)))
 
 -- src/forward.rt:78:5
 mul-after : tie.Need-mul-after
@@ -61,7 +65,7 @@ same-length-2 c = search needs
 
 -- src/forward.rt:67:1
 returns-2 : tie.Need-returns-2
-returns-2 c = ?
+returns-2 c = λ tail marks vertex. let a = c .before .before .before .before .before .before .before .before .before .args in nontree-made (configOf (a .s) (a .after .now) tail marks) (a .made) (a .events .now) vertex (sym (c .before .before .before .before .before .is-link .ensures) ∙ not-false _ (c .before .before .before .before .if1 .left)) (c .before .before .write-two .ensures)
 
 pub nontree-spec : {M : Type 1} → statement M
 nontree-spec =

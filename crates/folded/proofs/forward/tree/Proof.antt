@@ -1,3 +1,7 @@
+use mathlib.Core.Path.{sym, _∙_}
+use borrow.Author.Tests.{not-true, not-false}
+use Rattle.states.specs.Answers.{configOf}
+use Rattle.folded.proofs.Forwards.{tree-full, tree-no-link, tree-made}
 use borrow.Author.Needs.{needs}
 use Rattle.folded.proofs.forward.tree.Statement.{statement}
 use Rattle.folded.proofs.forward.tree.Tie as tie
@@ -14,7 +18,7 @@ unfit-requires c κs = search needs
 
 -- src/forward.rt:40:9
 returns : tie.Need-returns
-returns c = ?
+returns c = let a = c .before .before .before .before .before .before .args in let p = c .before .before .before .before .before .before .pre in c .unfit .ensures (a .after .now) (a .tail .now) (a .marks .now) (a .events .now) ∙ sym (tree-full (configOf (a .s) (a .after .now) (a .tail .now) (a .marks .now)) (a .made) (a .events .now) (a .x) (p .2) (p .3) (p .4) (c .before .if1 .taken))
 
 -- src/forward.rt:42:18
 read-after-requires : tie.Need-read-after-requires
@@ -34,7 +38,7 @@ same-length c = search needs
 
 -- src/forward.rt:44:9
 returns-2 : tie.Need-returns-2
-returns-2 c = ?
+returns-2 c = let a = c .before .before .before .before .before .before .before .before .before .before .args in let p = c .before .before .before .before .before .before .before .before .before .before .pre in c .unfit2 .ensures (a .after .now) (a .tail .now) (a .marks .now) (a .events .now) ∙ sym (tree-no-link (configOf (a .s) (a .after .now) (a .tail .now) (a .marks .now)) (a .made) (a .events .now) (a .x) (p .2) (p .3) (p .4) (c .before .before .before .before .before .if1 .left) (c .before .before .before .read-after .result) (c .before .before .before .read-after .ensures) (sym (c .before .before .is-link .ensures) ∙ not-true _ (c .before .if2 .taken)))
 
 -- src/forward.rt:46:14
 sub-i : tie.Need-sub-i
@@ -118,7 +122,7 @@ same-length-5 c = search needs
 
 -- src/forward.rt:23:1
 returns-3 : tie.Need-returns-3
-returns-3 c = ?
+returns-3 c = let a = c .before .before .before .before .before .before .before .before .before .before .before .before .before .args in let p = c .before .before .before .before .before .before .before .before .before .before .before .before .before .pre in tree-made (configOf (a .s) (a .after .now) (a .tail .now) (a .marks .now)) (a .made) (a .events .now) (a .x) (p .2) (p .3) (p .4) (c .before .before .before .before .before .before .before .before .if1 .left) (c .before .before .before .before .before .before .read-after .result) (c .before .before .before .before .before .before .read-after .ensures) (sym (c .before .before .before .before .before .is-link .ensures) ∙ not-false _ (c .before .before .before .before .if2 .left)) (c .before .before .write-two .ensures)
 
 pub tree-spec : {M : Type 1} → statement M
 tree-spec =

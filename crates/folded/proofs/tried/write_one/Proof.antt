@@ -1,3 +1,7 @@
+use Prim.Native.Nat.{_*_}
+use native.Mathlib.Omega.{arith}
+use lib.ListN.{length-set}
+use Rattle.walks.proofs.Storing.{three-stored}
 use borrow.Author.Needs.{needs}
 use Rattle.folded.proofs.tried.write_one.Statement.{statement}
 use Rattle.folded.proofs.tried.write_one.Tie as tie
@@ -26,7 +30,7 @@ mul-events-2 c = search needs
 
 -- src/tried.rt:60:5
 slice-write-events-2 : tie.Need-slice-write-events-2
-slice-write-events-2 c = ?
+slice-write-events-2 c = simp length-set (omega (arith, c .pre))
 
 -- src/tried.rt:61:12
 add-events-2 : tie.Need-add-events-2
@@ -38,7 +42,7 @@ mul-events-3 c = search needs
 
 -- src/tried.rt:61:5
 slice-write-events-3 : tie.Need-slice-write-events-3
-slice-write-events-3 c = ?
+slice-write-events-3 c = simp length-set (omega (arith, c .pre))
 
 -- src/tried.rt:54:1
 same-length : tie.Need-same-length
@@ -46,7 +50,7 @@ same-length c = search needs
 
 -- src/tried.rt:54:1
 returns : tie.Need-returns
-returns c = ?
+returns c = let a = c .args in three-stored (3 * (a .made)) (a .events .now) (a .kind) (a .r) (a .u) (c .pre)
 
 pub write-one-spec : {M : Type 1} → statement M
 write-one-spec =

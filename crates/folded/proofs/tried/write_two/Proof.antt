@@ -1,3 +1,4 @@
+use Rattle.folded.proofs.Stores.{six-pasted}
 use borrow.Author.Needs.{needs}
 use Rattle.folded.proofs.tried.write_two.Statement.{statement}
 use Rattle.folded.proofs.tried.write_two.Tie as tie
@@ -23,7 +24,7 @@ same-length c = search needs
 
 -- src/tried.rt:65:1
 returns : tie.Need-returns
-returns c = ?
+returns c = let a = c .before .before .before .before .before .before .before .before .before .args in six-pasted (a .made) (a .events .now) (a .a) (a .r) (a .u) (a .b) (a .q) (a .x) (c .before .before .before .before .before .before .before .before .before .pre) (c .before .before .before .before .before .before .write-one .ensures) (c .before .before .write-one2 .ensures)
 
 pub write-two-spec : {M : Type 1} → statement M
 write-two-spec =
