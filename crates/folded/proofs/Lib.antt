@@ -1,3 +1,5 @@
 pub mod Stores
 pub mod Forwards
 pub mod Backs
+pub mod Picked
+pub mod Driving

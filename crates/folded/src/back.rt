@@ -86,10 +86,10 @@ pub(crate) fn retreat(
         return unfit(s, made);
     }
     let k = (v - 1) as usize;
-    after[k] = s.e.0;
+    after[k] = s.e.0; // a(v) becomes e at the end of a scan
     let j = (r - n - 1) as usize;
     let w = tail[j];
-    tail[j] = v;
+    tail[j] = v; // t(r) is v again at the end of a scan
     after[i] = w;
     write_two(events, made, 6, 0, v, 5, r, f);
     let u = Vertex(f);
@@ -138,10 +138,10 @@ pub(crate) fn undo_tree(s: State, after: &mut [u16], tail: &mut [u16], made: usi
         return unfit(s, made);
     }
     let k = (v - 1) as usize;
-    after[k] = s.e.0;
+    after[k] = s.e.0; // a(v) becomes e in a roll-back
     let j = (r - n - 1) as usize;
     let w = tail[j];
-    tail[j] = v;
+    tail[j] = v; // t(r) is v again in a roll-back
     let u = Vertex(s.f);
     let e = Edge(r);
     let mut t = s;

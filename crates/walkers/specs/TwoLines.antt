@@ -72,7 +72,7 @@ TieClaim = (g : Image) (start : ℕ) (marks area : List ℕ) (o : Seen) → o �
 
 -- ---- the two lines
 -- Line B's account beside line A's event words; vs are the elements reached, in any order.
-pub record Agree (g : Image) (start : ℕ) (vs : List ℕ) (lineAWords : List ℕ) (b : Account) : Type 0 where
+pub record Agree (g : Image) (start : ℕ) (vs lineAWords : List ℕ) (b : Account) : Type 0 where
   -- B's event words are the first of A's.
   pub first : IsPrefix (b .told) lineAWords
   -- While no roll-back order was taken, B has ended exactly when its steps are twice the references met plus the elements reached.
@@ -89,7 +89,7 @@ pub record Agree (g : Image) (start : ℕ) (vs : List ℕ) (lineAWords : List �
 
 -- Demand 3: one call of `dfs_recursive` that is taken, on areas of its own; one opening that is taken; any list of calls.
 abbrev pub TwoLinesClaim : Type 0
-TwoLinesClaim = (g : Image) (start : ℕ) (marksA eventsA t marksA′ eventsA′ : List ℕ) → walkNumber g start marksA eventsA [] ≡ 0 → Promised 0 (g .n + g .m) (depthWalk g start) marksA eventsA t marksA′ eventsA′
+TwoLinesClaim = (g : Image) (start : ℕ) (marksA eventsA t marksA′ eventsA′ : List ℕ) → walkNumber g start marksA eventsA [] ≡ 0 → Promised (walkNumber g start marksA eventsA []) (g .n + g .m) (depthWalk g start) marksA eventsA t marksA′ eventsA′
     → (marks area : List ℕ) → openNumber g start marks area ≡ 0 → (o : Seen) → o ≡ seenOf (opening g start marks area)
     → (cs : List Call) (ss : List Seen) → Kept (o .config) cs ss
     → (vs : List ℕ) → Reached (graphOf g) [] start vs → Agree g start vs (toldBy t eventsA′) (account (opened o) cs ss)

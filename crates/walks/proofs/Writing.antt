@@ -27,7 +27,7 @@ use Rattle.walks.specs.Promises.{writtenAreas, walkNumber, depthWalk, br
 use Rattle.walks.specs.Writing.{noEvents, total, counted, hasRoom, tallyAfter, eventsAfter, canLabel, labelTally, labelMarks, labelEvents, Held, Roomy}
 
 -- ---- one event more
-words-append : (es fs : List Event) → words (es ++ fs) ≡ words es ++ words fs
+pub words-append : (es fs : List Event) → words (es ++ fs) ≡ words es ++ words fs
 words-append [] fs = refl
 words-append (event k r u ∷ es) fs = ap (λ (l : List ℕ). code k ∷ r ∷ u ∷ l) (words-append es fs)
 

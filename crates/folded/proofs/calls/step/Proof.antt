@@ -1,3 +1,7 @@
+use mathlib.Core.Path.{sym, ap, _∙_}
+use borrow.Author.Tests.{not-true, not-false}
+use Rattle.states.specs.Answers.{seenOf}
+use Rattle.folded.proofs.Driving.{work-number, ready, step-refused, step-over, step-stuck, step-taken}
 use borrow.Author.Needs.{needs}
 use Rattle.folded.proofs.calls.step.Statement.{statement}
 use Rattle.folded.proofs.calls.step.Tie as tie
@@ -23,7 +27,8 @@ refused-requires c κs = search needs
 
 -- src/calls.rt:52:9
 returns : tie.Need-returns
-returns c = ?
+returns c = let z = c .before .before .before .before .before .before .before .before .args in let e = work-number (z .s) (z .after .now) (z .tail .now) (z .marks .now) 6 (z .events .now) (c .before .before .before .are-long .ensures) (c .before .before .state-number .ensures) in
+    c .refused .ensures (z .after .now) (z .tail .now) (z .marks .now) (z .events .now) ∙ ap seenOf (sym (step-refused (z .s) (z .after .now) (z .tail .now) (z .marks .now) (z .events .now) e (c .before .if1 .taken)))
 
 -- src/calls.rt:54:8
 is-over-requires : tie.Need-is-over-requires
@@ -35,11 +40,13 @@ refused-requires-2 c κs = search needs
 
 -- src/calls.rt:55:9
 returns-2 : tie.Need-returns-2
-returns-2 c = ?
+returns-2 c = let z = c .before .before .before .before .before .before .before .before .before .before .args in let e = work-number (z .s) (z .after .now) (z .tail .now) (z .marks .now) 6 (z .events .now) (c .before .before .before .before .before .are-long .ensures) (c .before .before .before .before .state-number .ensures) in
+    c .refused2 .ensures (z .after .now) (z .tail .now) (z .marks .now) (z .events .now) ∙ ap seenOf (sym (step-over (z .s) (z .after .now) (z .tail .now) (z .marks .now) (z .events .now) e (c .before .before .before .if1 .left) (sym (c .before .before .is-over .ensures (z .after .now) (z .tail .now) (z .marks .now)) ∙ c .before .if2 .taken)))
 
 -- src/calls.rt:57:9
 make-requires : tie.Need-make-requires
-make-requires c κs = ?
+make-requires c κs = let z = c .before .before .before .before .before .before .before .before .before .before .before .before .before .args in let e = work-number (z .s) (z .after .now) (z .tail .now) (z .marks .now) 6 (z .events .now) (c .before .before .before .before .before .before .before .before .are-long .ensures) (c .before .before .before .before .before .before .before .state-number .ensures) in
+    ready (z .s) (z .after .now) (z .tail .now) (z .marks .now) 6 (z .events .now) (sym (c .before .before .before .before .before .before .if1 .left) ∙ e)
 
 -- src/calls.rt:59:9
 refused-requires-3 : tie.Need-refused-requires-3
@@ -63,7 +70,8 @@ same-length-4 c = search needs
 
 -- src/calls.rt:59:9
 returns-3 : tie.Need-returns-3
-returns-3 c = ?
+returns-3 c = let z = c .before .before .before .before .before .before .before .before .before .before .before .before .before .before .before .before .before .before .before .before .before .before .before .before .before .args in let e = work-number (z .s) (z .after .now) (z .tail .now) (z .marks .now) 6 (z .events .now) (c .before .before .before .before .before .before .before .before .before .before .before .before .before .before .before .before .before .before .before .before .are-long .ensures) (c .before .before .before .before .before .before .before .before .before .before .before .before .before .before .before .before .before .before .before .state-number .ensures) in
+    let t = c .before .before .before .before .before .before .before .before .before .before .before .make in c .refused3 .ensures (t .last .1 .0) (t .last .1 .1 .0) (t .last .1 .1 .1 .0) (t .last .1 .1 .1 .1 .0) ∙ step-stuck (z .s) (z .after .now) (z .tail .now) (z .marks .now) (z .events .now) e (c .before .before .before .before .before .before .before .before .before .before .before .before .before .before .before .before .before .before .if1 .left) (sym (c .before .before .before .before .before .before .before .before .before .before .before .before .before .before .before .before .before .is-over .ensures (z .after .now) (z .tail .now) (z .marks .now)) ∙ c .before .before .before .before .before .before .before .before .before .before .before .before .before .before .before .before .if2 .left) (t .result) (t .last .1 .0) (t .last .1 .1 .0) (t .last .1 .1 .1 .0) (t .last .1 .1 .1 .1 .0) (t .ensures) (not-true (t .result .fits) (c .before .if3 .taken))
 
 -- src/calls.rt:39:1
 same-length-5 : tie.Need-same-length-5
@@ -83,7 +91,8 @@ same-length-8 c = search needs
 
 -- src/calls.rt:39:1
 returns-4 : tie.Need-returns-4
-returns-4 c = ?
+returns-4 c = let z = c .before .before .before .before .before .before .before .before .before .before .before .before .before .before .before .before .before .before .before .before .before .before .before .before .before .args in let e = work-number (z .s) (z .after .now) (z .tail .now) (z .marks .now) 6 (z .events .now) (c .before .before .before .before .before .before .before .before .before .before .before .before .before .before .before .before .before .before .before .before .are-long .ensures) (c .before .before .before .before .before .before .before .before .before .before .before .before .before .before .before .before .before .before .before .state-number .ensures) in
+    let t = c .before .before .before .before .before .before .before .before .before .before .before .make in step-taken (z .s) (z .after .now) (z .tail .now) (z .marks .now) (z .events .now) e (c .before .before .before .before .before .before .before .before .before .before .before .before .before .before .before .before .before .before .if1 .left) (sym (c .before .before .before .before .before .before .before .before .before .before .before .before .before .before .before .before .before .is-over .ensures (z .after .now) (z .tail .now) (z .marks .now)) ∙ c .before .before .before .before .before .before .before .before .before .before .before .before .before .before .before .before .if2 .left) (t .result) (t .last .1 .0) (t .last .1 .1 .0) (t .last .1 .1 .1 .0) (t .last .1 .1 .1 .1 .0) (t .ensures) (not-false (t .result .fits) (c .before .if3 .left))
 
 pub step-spec : {M : Type 1} → statement M
 step-spec =

@@ -1,3 +1,6 @@
+use native.Mathlib.Omega.{arith}
+use Rattle.states.specs.Answers.{configOf}
+use Rattle.folded.proofs.Picked.{but-marks, coming, picks-relink, picks-undo-open, picks-undo-tree, picks-finish, picks-retreat}
 use borrow.Author.Needs.{needs}
 use Rattle.folded.proofs.moves.go_back.Statement.{statement}
 use Rattle.folded.proofs.moves.go_back.Tie as tie
@@ -19,7 +22,7 @@ same-length c = search needs
 
 -- src/moves.rt:32:9
 returns : tie.Need-returns
-returns c = ?
+returns c = let z = c .before .before .before .before .before .before .before .before .before .before .args in let w = configOf (z .s) (z .after .now) (z .tail .now) (z .marks .now) in coming w (z .made) (z .events .now) (picks-relink w (c .before .before .before .before .before .before .before .before .before .before .pre .1) (c .before .before .before .before .if1 .taken)) (c .before .before .relink .ensures (z .tail .now) (z .marks .now) (z .events .now))
 
 -- src/moves.rt:36:13
 undo-open-requires : tie.Need-undo-open-requires
@@ -35,11 +38,11 @@ same-length-3 c = search needs
 
 -- src/moves.rt:36:13
 returns-2 : tie.Need-returns-2
-returns-2 c = ?
+returns-2 c = let z = c .before .before .before .before .before .before .before .before .before .before .before .before .before .before .before .before .args in let w = configOf (z .s) (z .after .now) (z .tail .now) (z .marks .now) in coming w (z .made) (z .events .now) (picks-undo-open w (c .before .before .before .before .before .before .before .before .before .before .before .before .before .before .before .before .pre .1) (c .before .before .before .before .before .before .before .before .before .before .if1 .left) (c .before .before .before .before .before .before .before .before .if2 .taken) (c .before .before .before .before .before .before .before .if3 .taken)) (c .before .before .before .before .undo-open .ensures (z .tail .now) (z .events .now))
 
 -- src/moves.rt:38:9
 undo-tree-requires : tie.Need-undo-tree-requires
-undo-tree-requires c κs = ?
+undo-tree-requires c κs = let p = c .before .before .before .before .before .before .before .before .before .before .before .pre in (but-marks (c .before .before .before .before .before .before .before .before .before .before .before .args .s) (p .0), omega (arith, c .before .before .if3 .left), c .before .before .before .before .before .if1 .left)
 
 -- src/moves.rt:38:9
 same-length-4 : tie.Need-same-length-4
@@ -51,7 +54,7 @@ same-length-5 c = search needs
 
 -- src/moves.rt:38:9
 returns-3 : tie.Need-returns-3
-returns-3 c = ?
+returns-3 c = let z = c .before .before .before .before .before .before .before .before .before .before .before .before .before .before .before .before .args in let w = configOf (z .s) (z .after .now) (z .tail .now) (z .marks .now) in coming w (z .made) (z .events .now) (picks-undo-tree w (c .before .before .before .before .before .before .before .before .before .before .before .before .before .before .before .before .pre .1) (c .before .before .before .before .before .before .before .before .before .before .if1 .left) (c .before .before .before .before .before .before .before .before .if2 .taken) (c .before .before .before .before .before .before .before .if3 .left)) (c .before .before .before .before .undo-tree .ensures (z .marks .now) (z .events .now))
 
 -- src/moves.rt:41:9
 finish-requires : tie.Need-finish-requires
@@ -67,11 +70,11 @@ same-length-7 c = search needs
 
 -- src/moves.rt:41:9
 returns-4 : tie.Need-returns-4
-returns-4 c = ?
+returns-4 c = let z = c .before .before .before .before .before .before .before .before .before .before .before .before .before .before .before .before .args in let w = configOf (z .s) (z .after .now) (z .tail .now) (z .marks .now) in coming w (z .made) (z .events .now) (picks-finish w (c .before .before .before .before .before .before .before .before .before .before .before .before .before .before .before .before .pre .1) (c .before .before .before .before .before .before .before .before .before .before .if1 .left) (c .before .before .before .before .before .before .before .before .if2 .left) (c .before .before .before .before .before .before .before .if4 .taken)) (c .before .before .before .before .finish .ensures (z .tail .now) (z .marks .now))
 
 -- src/moves.rt:43:5
 retreat-requires : tie.Need-retreat-requires
-retreat-requires c κs = ?
+retreat-requires c κs = let p = c .before .before .before .before .before .before .before .before .before .before .before .before .pre in (but-marks (c .before .before .before .before .before .before .before .before .before .before .before .before .args .s) (p .0), omega (arith, c .before .before .before .if4 .left), c .before .before .before .before .before .before .if1 .left, p .2)
 
 -- src/moves.rt:19:1
 same-length-8 : tie.Need-same-length-8
@@ -87,7 +90,7 @@ same-length-10 c = search needs
 
 -- src/moves.rt:19:1
 returns-5 : tie.Need-returns-5
-returns-5 c = ?
+returns-5 c = let z = c .before .before .before .before .before .before .before .before .before .before .before .before .before .before .before .before .before .before .before .args in let w = configOf (z .s) (z .after .now) (z .tail .now) (z .marks .now) in coming w (z .made) (z .events .now) (picks-retreat w (c .before .before .before .before .before .before .before .before .before .before .before .before .before .before .before .before .before .before .before .pre .1) (c .before .before .before .before .before .before .before .before .before .before .before .before .before .if1 .left) (c .before .before .before .before .before .before .before .before .before .before .before .if2 .left) (c .before .before .before .before .before .before .before .before .before .before .if4 .left)) (c .before .before .before .before .before .before .retreat .ensures (z .marks .now))
 
 pub go-back-spec : {M : Type 1} → statement M
 go-back-spec =

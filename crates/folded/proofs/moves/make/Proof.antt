@@ -1,3 +1,6 @@
+use mathlib.Core.Logic.{⊎-elim}
+use Rattle.states.specs.Answers.{configOf}
+use Rattle.folded.proofs.Picked.{coming, goes-forward, not-walking, none-next, picks-onward}
 use borrow.Author.Needs.{needs}
 use Rattle.folded.proofs.moves.make.Statement.{statement}
 use Rattle.folded.proofs.moves.make.Tie as tie
@@ -8,7 +11,7 @@ use Rattle.folded.proofs.moves.go_back.Reads as go-back-reads
 
 -- src/moves.rt:60:13
 advance-requires : tie.Need-advance-requires
-advance-requires c κs = ?
+advance-requires c κs = let p = c .before .before .before .before .before .before .before .before .before .before .before .before .pre in (p .0, p .0 .e-low (c .before .before .before .before .if2 .taken), p .1)
 
 -- src/moves.rt:60:13
 same-length : tie.Need-same-length
@@ -28,11 +31,11 @@ same-length-4 c = search needs
 
 -- src/moves.rt:60:13
 returns : tie.Need-returns
-returns c = ?
+returns c = let z = c .before .before .before .before .before .before .before .before .before .before .before .before .before .before .before .before .before .before .before .before .before .args in let w = configOf (z .s) (z .after .now) (z .tail .now) (z .marks .now) in coming w (z .made) (z .events .now) (picks-onward w (goes-forward w (c .before .before .before .before .before .before .before .before .before .before .before .before .before .before .before .if1 .taken) (c .before .before .before .before .before .before .before .before .before .before .before .before .before .if2 .taken))) (c .before .before .before .before .before .before .before .before .advance .ensures)
 
 -- src/moves.rt:63:5
 go-back-requires : tie.Need-go-back-requires
-go-back-requires c κs = ?
+go-back-requires c κs = let z = c .before .before .before .before .before .before .before .before .before .before .args in let p = c .before .before .before .before .before .before .before .before .before .before .pre in let w = configOf (z .s) (z .after .now) (z .tail .now) (z .marks .now) in (p .0, ⊎-elim (λ k. none-next w (k .0 .taken) (k .2 .left)) (λ k. not-walking w (k .left)) (c .before .before .before .before .if1 .came), p .1)
 
 -- src/moves.rt:47:1
 same-length-5 : tie.Need-same-length-5

@@ -1,0 +1,406 @@
+-- A single step and a run follow the definitions: a call that is not refused is ready, a step leaves what is ready, and the events of a
+-- run stand one behind another in its area.
+-- A run is the steps made so far in front of the run from there.
+use mathlib.Core.Path.{_≡_, refl, sym, ap, _∙_, subst}
+use mathlib.Core.Logic.{_≢_}
+use mathlib.Core.Bool.{Bool, true, false, not, _&&_, cond}
+use mathlib.Core.List.{List, [], _∷_, _++_, append-assoc, append-nil}
+use Prim.Native.Nat.{ℕ, zero, suc, _+_, _-_, _*_, _≤_, _<_}
+use native.Mathlib.Omega.{arith}
+use lib.Dec.{eqb, ltb, leb}
+use lib.ListN.{length, length-append}
+use borrow.Author.Tests.{eqb-false, ltb-true, ltb-false, leb-true, not-false}
+use Rattle.lists.specs.Words.{at, overlay, pasted}
+use Rattle.lists.proofs.Tests.{both, clash, neither}
+use Rattle.lists.proofs.Words.{pasted-front, pasted-pasted}
+use Rattle.graphs.specs.Nodes.{isVertex, isEdge, isLink, isNode}
+use Rattle.graphs.proofs.Nodes.{vertex-is, edge-is, link-not-null, link-node}
+use Rattle.graphs.specs.Events.{Event, words}
+use Rattle.graphs.proofs.Room.{words-length}
+use Rattle.graphs.specs.Refusals.{refuse, firstOf, Lent, lent, short, vertexOut, sizeRefusals}
+use Rattle.graphs.proofs.Refusals.{all-false, long}
+use Rattle.walks.proofs.Numbers.{more-lent, own-test}
+use Rattle.walks.proofs.Writing.{words-append}
+use Rattle.folding.specs.Machine.{Config, rollingBack, target, forward, fresh, tree, nontree, relink, retreat, finish, undo-tree, undo-open, pickStep, stepOf, closed, upward, fits, Stepped, enact, canStep, step}
+use Rattle.folding.specs.Calls.{ended, spent, stuck, ran, taken, refusing, over, fieldsIn, stateNumber, workAreas, runNumber, stepRefusals, stepNumber, Run, stop, onward, run, runFor, single, perform, serve}
+use Rattle.folding.proofs.Fields.{Fields, fields-are}
+use Rattle.states.specs.declared.values.State.{State}
+use Rattle.states.specs.declared.values.Reason.{Reason}
+use Rattle.states.specs.declared.values.Reason.the-variants.{Ended, Spent, Stuck}
+use Rattle.states.specs.Answers.{configOf, reasonOf, seenOf, toldRan}
+use Rattle.states.proofs.Numbers.{number-first, number-own, serve-refused, serve-taken}
+use Rattle.folded.specs.Steps.{Attempt, trying, out, made, tried, Ready}
+use Rattle.folded.specs.declared.tried.Tried.{Tried}
+
+-- ---- a call that is not refused
+-- The areas of a step or a run, as the code tests them.
+work-long : (w : Config) (k : ℕ) (area : List ℕ) → (leb (w .n + w .m) (length (w .after)) && (leb (w .m) (length (w .tail)) && (leb (w .n + w .m) (length (w .marks)) && leb k (length area)))) ≡ not (short (workAreas w k area))
+work-long w k area =
+    more-lent (w .n + w .m) (w .after) (lent (w .m) (w .tail) ∷ lent (w .n + w .m) (w .marks) ∷ lent k area ∷ []) _
+    (more-lent (w .m) (w .tail) (lent (w .n + w .m) (w .marks) ∷ lent k area ∷ []) _ (more-lent (w .n + w .m) (w .marks) (lent k area ∷ []) _ (own-test k area)))
+
+-- The number that the code finds for a call that is lent k event words.
+pub work-number : (s : State) (after tail marks : List ℕ) (k : ℕ) (area : List ℕ) {all : Bool} {j : ℕ}
+    → all ≡ (leb (s .n + s .m) (length after) && (leb (s .m) (length tail) && (leb (s .n + s .m) (length marks) && leb k (length area))))
+    → ((after tail marks : List ℕ) (areas : List Lent) → all ≡ not (short areas) → j ≡ stateNumber (configOf s after tail marks) areas [])
+    → j ≡ stateNumber (configOf s after tail marks) (workAreas (configOf s after tail marks) k area) []
+work-number s after tail marks k area a number = number after tail marks (workAreas (configOf s after tail marks) k area) (a ∙ work-long (configOf s after tail marks) k area)
+
+-- Null, or an edge.
+link-low : (n m x : ℕ) → isLink n m x ≡ true → x ≢ 0 → n < x
+link-low n m x h ne = link-not-null n m x h ne .0
+
+link-high : (n m x : ℕ) → isLink n m x ≡ true → x ≤ n + m
+link-high n m x h = leb-true x (n + m) (link-node n m x h)
+
+-- None of the five conditions that a call with a state meets first is true: the state is ready, and the event words are as many as stated.
+pub ready : (s : State) (after tail marks : List ℕ) (k : ℕ) (area : List ℕ) → 0 ≡ stateNumber (configOf s after tail marks) (workAreas (configOf s after tail marks) k area) [] → Ready s (length after) (length tail) (length marks) × (k ≤ length area)
+ready s after tail marks k area h =
+    let w = configOf s after tail marks in
+    let A = all-false (sizeRefusals (w .n) (w .m) (workAreas w k area) ++ refuse 4 (vertexOut (w .n) (w .start)) ∷ refuse 8 (not (fieldsIn w)) ∷ []) [] (omega arith) (sym h) .0 in
+    let K : Fields w = fields-are w (not-false (fieldsIn w) (A .1 .1 .1 .1 .0)) in
+    let v = vertex-is (w .n) (w .v) (K .v-in) in
+    let a = long (w .n + w .m) after (lent (w .m) tail ∷ lent (w .n + w .m) marks ∷ lent k area ∷ []) (A .1 .1 .0) in
+    let b = long (w .m) tail (lent (w .n + w .m) marks ∷ lent k area ∷ []) (a .1) in
+    let c = long (w .n + w .m) marks (lent k area ∷ []) (b .1) in (
+      record {
+        few-vertices = ltb-false 1000 (w .n) (neither (eqb (w .n) 0) (ltb 1000 (w .n)) (A .0) .1);
+        few-edges = ltb-false 4000 (w .m) (A .1 .0);
+        v-low = v .0;
+        v-high = v .1;
+        e-low = link-low (w .n) (w .m) (w .e) (K .e-in);
+        e-high = link-high (w .n) (w .m) (w .e) (K .e-in);
+        f-high = leb-true (w .f) (w .n + w .m) (K .f-in);
+        next-high = K .next-high;
+        long-after = a .0;
+        long-tail = b .0;
+        long-marks = c .0;
+      },
+      long k area [] (c .1) .0,
+    )
+
+-- ---- a step tried
+module _ {x : Attempt} (w : Config) (k : ℕ) (area : List ℕ) (e : x ≡ trying w (stepOf w) k area) where
+  cases : (b : Bool) → canStep w ≡ b → x ≡ cond b (made (step w) k area) (out w k area)
+  unfolding trying
+  cases b q = e ∙ ap (λ (c : Bool). cond c (made (step w) k area) (out w k area)) q
+
+  -- The code says that it fits: it is made.
+  tried-made : x .fit ≡ true → (canStep w ≡ true) × (x ≡ made (step w) k area)
+  tried-made h = go (canStep w) refl
+    where
+      go : (b : Bool) → canStep w ≡ b → (canStep w ≡ true) × (x ≡ made (step w) k area)
+      go true q = (q, cases true q)
+      go false q = clash (sym h ∙ ap (λ (y : Attempt). y .fit) (cases false q))
+
+  -- The code says that it does not: nothing changes.
+  tried-out : x .fit ≡ false → (canStep w ≡ false) × (x ≡ out w k area)
+  tried-out h = go (canStep w) refl
+    where
+      go : (b : Bool) → canStep w ≡ b → (canStep w ≡ false) × (x ≡ out w k area)
+      go true q = clash (sym (ap (λ (y : Attempt). y .fit) (cases true q)) ∙ h)
+      go false q = (q, cases false q)
+
+-- ---- a single step
+module _ (s : State) (after tail marks area : List ℕ) {k : ℕ} (e : k ≡ stateNumber (configOf s after tail marks) (workAreas (configOf s after tail marks) 6 area) []) where
+  abbrev at-step : Config
+  at-step = configOf s after tail marks
+
+  -- One of the five conditions is true.
+  pub step-refused : k ≢ 0 → serve at-step (single area) ≡ refusing k at-step area
+  unfolding stepNumber
+  step-refused ne = serve-refused at-step (single area) (number-first at-step (workAreas at-step 6 area) (stepRefusals at-step) e ne) ne
+
+  module _ (z : k ≡ 0) where
+    -- The step's own conditions decide.
+    own-number : {b c : Bool} → over at-step ≡ b → canStep at-step ≡ c → stepNumber at-step area ≡ firstOf (refuse 8 (not b && not c) ∷ refuse 9 b ∷ [])
+    unfolding stepNumber
+    own-number p q = number-own at-step (workAreas at-step 6 area) (stepRefusals at-step) e z ∙ (λ i. firstOf (refuse 8 (not (p i) && not (q i)) ∷ refuse 9 (p i) ∷ []))
+
+    -- There is no step to come.
+    pub step-over : over at-step ≡ true → serve at-step (single area) ≡ refusing 9 at-step area
+    step-over o = serve-refused at-step (single area) (own-number o refl) (omega arith)
+
+    module _ (o : over at-step ≡ false) (r : Tried) (after′ tail′ marks′ area′ : List ℕ) (t : tried r after′ tail′ marks′ area′ ≡ trying at-step (stepOf at-step) 0 area) where
+      -- The step does not fit.
+      pub step-stuck : r .fits ≡ false → seenOf (refusing 8 (configOf s after′ tail′ marks′) area′) ≡ seenOf (serve at-step (single area))
+      step-stuck h =
+          let T = tried-out at-step 0 area t h in
+          ap (λ (x : Attempt). seenOf (refusing 8 (configOf s (x .config .after) (x .config .tail) (x .config .marks)) (x .area))) (T .1)
+          ∙ ap seenOf (sym (serve-refused at-step (single area) (own-number o (T .0)) (omega arith)))
+
+      -- The step is made.
+      pub step-taken : r .fits ≡ true → record { answer = taken; steps = 1; count = r .made; config = configOf (r .state) after′ tail′ marks′; area = area′ } ≡ seenOf (serve at-step (single area))
+      step-taken h =
+          let T = tried-made at-step 0 area t h in
+          let es = step at-step .events in
+          let c : 0 + length es ≡ length es = omega arith in
+          ap (λ (x : Attempt). record { answer = taken; steps = 1; count = x .count; config = x .config; area = x .area }) (T .1)
+          ∙ (λ i. record { answer = taken; steps = 1; count = c i; config = step at-step .config; area = pasted-front (words es) area i })
+          ∙ ap seenOf (sym (serve-taken at-step (single area) (own-number o (T .0))))
+
+-- ---- what a step leaves
+-- Vertex, edge, trailer and next label in kind.
+record Placed (w : Config) : Type 0 where
+  v-low : 0 < w .v
+  v-high : w .v ≤ w .n
+  e-low : w .e ≢ 0 → w .n < w .e
+  e-high : w .e ≤ w .n + w .m
+  f-high : w .f ≤ w .n + w .m
+  next-high : w .next ≤ suc (w .n)
+
+-- It leaves them in kind, the sizes as they were, and at most two events.
+record Moved (w : Config) (s : Stepped) : Type 0 where
+  placed : Placed (s .config)
+  same-n : s .config .n ≡ w .n
+  same-m : s .config .m ≡ w .m
+  few : length (s .events) ≤ 2
+
+module _ (w : Config) (P : Placed w) where
+  tree-moved : fits w tree ≡ true → Moved w (enact w tree)
+  unfolding fits enact
+  tree-moved h =
+      let x = target w (w .e) in
+      let a = both (isVertex (w .n) x) (leb (w .next) (w .n) && isLink (w .n) (w .m) (at 0 (closed w) x)) h in
+      let b = both (leb (w .next) (w .n)) (isLink (w .n) (w .m) (at 0 (closed w) x)) (a .1) in
+      let u = vertex-is (w .n) x (a .0) in
+      record {
+        placed = record { v-low = u .0; v-high = u .1; e-low = link-low (w .n) (w .m) (at 0 (closed w) x) (b .1); e-high = link-high (w .n) (w .m) (at 0 (closed w) x) (b .1); f-high = omega (arith, P .v-high); next-high = omega (arith, leb-true (w .next) (w .n) (b .0)) };
+        same-n = refl;
+        same-m = refl;
+        few = omega arith;
+      }
+
+  nontree-moved : fits w nontree ≡ true → Moved w (enact w nontree)
+  unfolding fits enact
+  nontree-moved h =
+      let a = both (isVertex (w .n) (target w (w .e))) (isLink (w .n) (w .m) (at 0 (w .after) (w .e))) h in
+      record {
+        placed = record { v-low = P .v-low; v-high = P .v-high; e-low = link-low (w .n) (w .m) (at 0 (w .after) (w .e)) (a .1); e-high = link-high (w .n) (w .m) (at 0 (w .after) (w .e)) (a .1); f-high = P .e-high; next-high = P .next-high };
+        same-n = refl;
+        same-m = refl;
+        few = omega arith;
+      }
+
+  relink-moved : ltb (w .n) (w .f) ≡ true → fits w relink ≡ true → Moved w (enact w relink)
+  unfolding fits enact
+  relink-moved c h = record {
+    placed = record { v-low = P .v-low; v-high = P .v-high; e-low = λ ne. ltb-true (w .n) (w .f) c; e-high = P .f-high; f-high = leb-true (at 0 (w .after) (w .f)) (w .n + w .m) h; next-high = P .next-high };
+    same-n = refl;
+    same-m = refl;
+    few = omega arith;
+  }
+
+  finish-moved : Moved w (enact w finish)
+  unfolding enact
+  finish-moved = record { placed = record { v-low = P .v-low; v-high = P .v-high; e-low = P .e-low; e-high = P .e-high; f-high = P .f-high; next-high = P .next-high }; same-n = refl; same-m = refl; few = omega arith }
+
+  undo-open-moved : Moved w (enact w undo-open)
+  unfolding enact
+  undo-open-moved = record { placed = record { v-low = P .v-low; v-high = P .v-high; e-low = P .e-low; e-high = P .e-high; f-high = P .f-high; next-high = P .next-high }; same-n = refl; same-m = refl; few = omega arith }
+
+  module _ (c : ltb (w .n) (w .f) ≡ false) (d : eqb (w .f) 0 ≡ false) where
+    -- A trailer that is no edge and not null is a vertex.
+    f-low : 0 < w .f
+    f-low = let ne : w .f ≡ 0 → ⊥ = eqb-false (w .f) 0 d in omega arith
+
+    retreat-moved : fits w retreat ≡ true → Moved w (enact w retreat)
+    unfolding fits enact
+    retreat-moved h =
+        let y = at 0 (closed w) (upward w) in
+        let a = both (isEdge (w .n) (w .m) (upward w)) (isNode (w .n) (w .m) (target w (upward w)) && isLink (w .n) (w .m) y) h in
+        let b = both (isNode (w .n) (w .m) (target w (upward w))) (isLink (w .n) (w .m) y) (a .1) in
+        record {
+          placed = record { v-low = f-low; v-high = ltb-false (w .n) (w .f) c; e-low = link-low (w .n) (w .m) y (b .1); e-high = link-high (w .n) (w .m) y (b .1); f-high = edge-is (w .n) (w .m) (upward w) (a .0) .1; next-high = P .next-high };
+          same-n = refl;
+          same-m = refl;
+          few = omega arith;
+        }
+
+    undo-tree-moved : fits w undo-tree ≡ true → Moved w (enact w undo-tree)
+    unfolding fits enact
+    undo-tree-moved h =
+        let a = both (isEdge (w .n) (w .m) (upward w)) (isNode (w .n) (w .m) (target w (upward w))) h in
+        let r = edge-is (w .n) (w .m) (upward w) (a .0) in
+        record {
+          placed = record { v-low = f-low; v-high = ltb-false (w .n) (w .f) c; e-low = λ ne. r .0; e-high = r .1; f-high = leb-true (target w (upward w)) (w .n + w .m) (a .1); next-high = P .next-high };
+          same-n = refl;
+          same-m = refl;
+          few = omega arith;
+        }
+
+  moved-at : (a b c d x : Bool) → ltb (w .n) (w .f) ≡ c → eqb (w .f) 0 ≡ d → fits w (pickStep a b c d x) ≡ true → Moved w (enact w (pickStep a b c d x))
+  moved-at true true c d x p q h = tree-moved h
+  moved-at true false c d x p q h = nontree-moved h
+  moved-at false b true d x p q h = relink-moved p h
+  moved-at false b false true false p q h = finish-moved
+  moved-at false b false true true p q h = undo-open-moved
+  moved-at false b false false false p q h = retreat-moved p q h
+  moved-at false b false false true p q h = undo-tree-moved p q h
+
+  -- The step to come.
+  step-moved : canStep w ≡ true → Moved w (step w)
+  unfolding stepOf
+  step-moved = moved-at (forward w) (fresh w) (ltb (w .n) (w .f)) (eqb (w .f) 0) (eqb (w .phase) rollingBack) refl refl
+
+-- A state that is ready.
+placed-state : {s : State} {a t k : ℕ} (after tail marks : List ℕ) → Ready s a t k → Placed (configOf s after tail marks)
+placed-state after tail marks R = record { v-low = R .v-low; v-high = R .v-high; e-low = R .e-low; e-high = R .e-high; f-high = R .f-high; next-high = R .next-high }
+
+-- ---- a run
+-- Steps made, and their events, in front of a run.
+abbrev behind : ℕ → List Event → Run → Run
+behind k es r = record { reason = r .reason; steps = k + r .steps; events = es ++ r .events; config = r .config }
+
+behind-onward : (k : ℕ) (es fs : List Event) (r : Run) → behind k es (onward fs r) ≡ behind (k + 1) (es ++ fs) r
+behind-onward k es fs r =
+    let e : k + suc (r .steps) ≡ k + 1 + r .steps = omega arith in
+    λ i. record { reason = r .reason; steps = e i; events = sym (append-assoc es fs (r .events)) i; config = r .config }
+
+-- The tests before a step.
+run-ended : (k : ℕ) (w : Config) → over w ≡ true → run k w ≡ stop ended w
+unfolding run
+run-ended zero w o = rw o
+run-ended (suc k) w o = rw o
+
+run-spent : (w : Config) → over w ≡ false → run 0 w ≡ stop spent w
+unfolding run
+run-spent w o = rw o
+
+run-stuck : (k : ℕ) (w : Config) → over w ≡ false → canStep w ≡ false → run (suc k) w ≡ stop stuck w
+unfolding run
+run-stuck k w o c = rw (o, c)
+
+run-on : (k : ℕ) (w : Config) → over w ≡ false → canStep w ≡ true → run (suc k) w ≡ onward (step w .events) (run k (step w .config))
+unfolding run
+run-on k w o c = rw (o, c)
+
+-- Events written behind the events so far.
+written-behind : (es fs : List Event) (area : List ℕ) → 3 * length es ≤ length area → pasted (3 * length es) (words fs) (overlay (words es) area) ≡ overlay (words (es ++ fs)) area
+written-behind es fs area h =
+    let e : 3 * length es ≡ 0 + length (words es) = omega (arith, words-length es) in
+    ap (λ (j : ℕ). pasted j (words fs) (overlay (words es) area)) e
+    ∙ ap (pasted (0 + length (words es)) (words fs)) (sym (pasted-front (words es) area))
+    ∙ pasted-pasted 0 area (omega arith) (words es) (words fs) (omega (arith, words-length es))
+    ∙ pasted-front (words es ++ words fs) area
+    ∙ ap (λ (ws : List ℕ). overlay ws area) (sym (words-append es fs))
+
+-- Where a run of k steps from w₀ is after some of them: the state, the links and marks, and the events so far in their area.
+pub record Going (k : ℕ) (w₀ : Config) (area₀ : List ℕ) (s : State) (after tail marks area : List ℕ) (steps count : ℕ) : Type 0 where
+  pub log : List Event
+  pub same : run k w₀ ≡ behind steps log (run (k - steps) (configOf s after tail marks))
+  pub written : area ≡ overlay (words log) area₀
+  pub number : count ≡ length log
+  pub ready : Ready s (length after) (length tail) (length marks)
+  pub most : steps ≤ k
+  pub room : 3 * count + 6 * (k - steps) ≤ length area
+  pub same-after : length after ≡ length (w₀ .after)
+  pub same-tail : length tail ≡ length (w₀ .tail)
+  pub same-marks : length marks ≡ length (w₀ .marks)
+  pub same-area : length area ≡ length area₀
+
+-- No step made yet.
+pub begun : (k : ℕ) (s : State) (after tail marks area : List ℕ) → Ready s (length after) (length tail) (length marks) → 6 * k ≤ length area → Going k (configOf s after tail marks) area s after tail marks area 0 0
+begun k s after tail marks area R h = record {
+  log = [];
+  same = let r : Run = run k (configOf s after tail marks) in
+      let z : r .steps ≡ 0 + r .steps = omega arith in
+      let y : k ≡ k - 0 = omega arith in
+      (λ i. record { reason = r .reason; steps = z i; events = r .events; config = r .config }) ∙ ap (λ (j : ℕ). behind 0 [] (run j (configOf s after tail marks))) y;
+  written = refl;
+  number = refl;
+  ready = R;
+  most = omega arith;
+  room = omega arith;
+  same-after = refl;
+  same-tail = refl;
+  same-marks = refl;
+  same-area = refl;
+}
+
+module _ {k : ℕ} {w₀ : Config} {area₀ : List ℕ} {s : State} {after tail marks area : List ℕ} {steps count : ℕ} (G : Going k w₀ area₀ s after tail marks area steps count) where
+  abbrev w : Config
+  w = configOf s after tail marks
+
+  -- The run stops here.
+  done : (why : Reason) → run (k - steps) w ≡ stop (reasonOf why) w → toldRan why steps count w area ≡ seenOf (perform w₀ (runFor k area₀))
+  done why e =
+      let z : steps ≡ steps + 0 = omega arith in
+      let n : G .log ≡ G .log ++ [] = sym (append-nil (G .log)) in
+      (λ i. record { answer = ran (reasonOf why); steps = z i; count = (G .number ∙ ap length n) i; config = w; area = (G .written ∙ ap (λ (es : List Event). overlay (words es) area₀) n) i })
+      ∙ ap (λ (r : Run). record { answer = ran (r .reason); steps = r .steps; count = length (r .events); config = r .config; area = overlay (words (r .events)) area₀ }) (sym (G .same ∙ ap (behind steps (G .log)) e))
+
+  pub done-ended : over w ≡ true → toldRan Ended steps count w area ≡ seenOf (perform w₀ (runFor k area₀))
+  done-ended o = done Ended (run-ended (k - steps) w o)
+
+  module _ (o : over w ≡ false) where
+    pub done-spent : steps ≡ k → toldRan Spent steps count w area ≡ seenOf (perform w₀ (runFor k area₀))
+    done-spent e = let z : k - steps ≡ 0 = omega arith in done Spent (ap (λ (j : ℕ). run j w) z ∙ run-spent w o)
+
+    module _ (ne : steps ≢ k) where
+      -- At least one more step is allowed, and its events have room.
+      left : k - steps ≡ suc (k - (steps + 1))
+      left = let l = G .most in omega arith
+
+      pub room-left : 3 * count + 6 ≤ length area
+      room-left = omega (arith, left, G .room)
+
+      -- The next step, as the code has tried it.
+      module _ (r : Tried) (after′ tail′ marks′ area′ : List ℕ) (t : tried r after′ tail′ marks′ area′ ≡ trying w (stepOf w) count area) where
+        -- It does not fit: the run is stuck.
+        pub done-stuck : r .fits ≡ false → toldRan Stuck steps count (configOf s after′ tail′ marks′) area′ ≡ seenOf (perform w₀ (runFor k area₀))
+        done-stuck h =
+            let T = tried-out w count area t h in
+            ap (λ (x : Attempt). toldRan Stuck steps count (configOf s (x .config .after) (x .config .tail) (x .config .marks)) (x .area)) (T .1)
+            ∙ done Stuck (ap (λ (j : ℕ). run j w) left ∙ run-stuck (k - (steps + 1)) w o (T .0))
+
+        -- It is made: the run goes on.
+        pub going-on : r .fits ≡ true → length after′ ≡ length after → length tail′ ≡ length tail → length marks′ ≡ length marks → length area′ ≡ length area
+            → Going k w₀ area₀ (r .state) after′ tail′ marks′ area′ (steps + 1) (r .made)
+        going-on h la lt lm le =
+            let T = tried-made w count area t h in
+            let u = configOf (r .state) after′ tail′ marks′ in
+            let es = step w .events in
+            let c : u ≡ step w .config = ap (λ (x : Attempt). x .config) (T .1) in
+            let more : r .made ≡ count + length es = ap (λ (x : Attempt). x .count) (T .1) in
+            let M : Moved w (step w) = step-moved w (placed-state after tail marks (G .ready)) (T .0) in
+            let P : Placed u = subst Placed (sym c) (M .placed) in
+            let n : r .state .n ≡ s .n = ap (λ (x : Config). x .n) c ∙ M .same-n in
+            let m : r .state .m ≡ s .m = ap (λ (x : Config). x .m) c ∙ M .same-m in
+            let R = G .ready in
+            let next : run (k - steps) w ≡ onward es (run (k - (steps + 1)) u) = ap (λ (j : ℕ). run j w) left ∙ run-on (k - (steps + 1)) w o (T .0) ∙ ap (λ (x : Config). onward es (run (k - (steps + 1)) x)) (sym c) in
+            record {
+              log = G .log ++ es;
+              same = G .same ∙ ap (behind steps (G .log)) next ∙ behind-onward steps (G .log) es (run (k - (steps + 1)) u);
+              written = ap (λ (x : Attempt). x .area) (T .1) ∙ (λ i. pasted (3 * G .number i) (words es) (G .written i)) ∙ written-behind (G .log) es area₀ (omega (arith, G .room, G .number, G .same-area));
+              number = more ∙ (λ i. G .number i + length es) ∙ sym (length-append (G .log) es);
+              ready = record {
+                few-vertices = omega (arith, n, R .few-vertices);
+                few-edges = omega (arith, m, R .few-edges);
+                v-low = P .v-low;
+                v-high = P .v-high;
+                e-low = P .e-low;
+                e-high = P .e-high;
+                f-high = P .f-high;
+                next-high = P .next-high;
+                long-after = omega (arith, n, m, la, R .long-after);
+                long-tail = omega (arith, m, lt, R .long-tail);
+                long-marks = omega (arith, n, m, lm, R .long-marks);
+              };
+              most = let l = G .most in omega arith;
+              room = omega (arith, more, M .few, left, G .room, le);
+              same-after = la ∙ G .same-after;
+              same-tail = lt ∙ G .same-tail;
+              same-marks = lm ∙ G .same-marks;
+              same-area = le ∙ G .same-area;
+            }
+
+-- ---- the number of a run
+module _ (w : Config) (k : ℕ) (area : List ℕ) {j : ℕ} (e : j ≡ stateNumber w (workAreas w (6 * k) area) []) where
+  pub run-refused : j ≢ 0 → serve w (runFor k area) ≡ refusing j w area
+  unfolding runNumber
+  run-refused ne = serve-refused w (runFor k area) (sym e) ne
+
+  pub run-taken : j ≡ 0 → serve w (runFor k area) ≡ perform w (runFor k area)
+  unfolding runNumber
+  run-taken z = serve-taken w (runFor k area) (sym e ∙ z)

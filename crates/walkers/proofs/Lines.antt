@@ -1,0 +1,77 @@
+-- The claims of specs/TwoLines: what the calls promise is the two lines of folding/, where demand 3 is proved of their events.
+use mathlib.Core.Path.{_≡_, refl, sym, ap, _∙_, subst}
+use mathlib.Core.List.{List, [], _∷_, _++_, IsPrefix}
+use Prim.Native.Nat.{ℕ, _*_}
+use native.Mathlib.Omega.{arith}
+use lib.ListN.{length, take, drop, length-reverse}
+use lib.Seq.{take-at}
+use Rattle.lists.specs.Counts.{sumOf}
+use Rattle.lists.specs.Words.{overlay}
+use Rattle.graphs.specs.Events.{Event, words}
+use Rattle.graphs.specs.Image.{Image}
+use Rattle.graphs.proofs.Results.{tally-sums}
+use Rattle.graphs.proofs.Room.{words-length}
+use Rattle.walks.specs.Promises.{depthWalk}
+use Rattle.walks.proofs.Writing.{words-append}
+use Rattle.folding.specs.Calls.{Reply, Call, areaOf, serve, opening}
+use Rattle.folding.specs.Lines.{Line, lineA, lineB, folded, noted, calls, begun}
+use Rattle.folding.specs.Claims.{Agrees}
+use Rattle.folding.proofs.AnyInput.{demand1}
+use Rattle.folding.proofs.Agreement.{agreement}
+use Rattle.states.specs.Answers.{Seen, seenOf}
+use Rattle.walkers.specs.TwoLines.{LineAClaim, Kept, Account, written, opened, added, account, accountOf, TieClaim, Agree, TwoLinesClaim}
+
+-- ---- line A
+-- The words of events stand in front of the area that they are written to, three for each.
+in-front : (es : List Event) (k : ℕ) (area area′ : List ℕ) → k ≡ length es → area′ ≡ overlay (words es) area → take (3 * k) area′ ≡ words es
+in-front es k area area′ n e = ap (take (3 * k)) e ∙ take-at (words es) (drop (length (words es)) area) (3 * k) (omega (arith, words-length es))
+
+pub line-a : LineAClaim
+line-a g start marks events t marks′ events′ P =
+    let h = depthWalk g start in
+    in-front (lineA g start) (sumOf (λ k. k) t) events events′ (ap (sumOf (λ k. k)) (P .tally-is) ∙ tally-sums h ∙ sym (length-reverse h)) (P .events-are)
+
+-- ---- line B
+-- The words that a call has written are those of its events.
+tells : (r : Reply) (area : List ℕ) → r .area ≡ overlay (words (r .events)) area → written (seenOf r) ≡ words (r .events)
+tells r area e = in-front (r .events) (length (r .events)) area (r .area) refl e
+
+-- A line's account, with these event words.
+abbrev accountWith : Line → List ℕ → Account
+accountWith l ws = record { config = l .config; told = ws; steps = l .steps; rolling = l .rolling; since = l .since; answers = l .answers }
+
+-- A call seen is added to the account as its reply is noted in the line.
+one-more : (l : Line) (c : Call) → added (accountOf l) c (seenOf (serve (l .config) c)) ≡ accountOf (noted l c (serve (l .config) c))
+one-more l c =
+    let r : Reply = serve (l .config) c in
+    ap (λ (ws : List ℕ). accountWith (noted l c r) (words (l .events) ++ ws)) (tells r (areaOf c) (demand1 .call-confined (l .config) c .told))
+    ∙ ap (accountWith (noted l c r)) (sym (words-append (l .events) (r .events)))
+
+-- So is every list of calls, from any line.
+tied : (l : Line) (cs : List Call) (ss : List Seen) → Kept (l .config) cs ss → account (accountOf l) cs ss ≡ accountOf (calls folded l cs)
+unfolding calls
+tied l [] ss K = refl
+tied l (c ∷ cs) [] K = absurd K
+tied l (c ∷ cs) (s ∷ ss) K =
+    ap (λ (a : Account). account a cs ss) (ap (added (accountOf l) c) (K .0) ∙ one-more l c)
+    ∙ tied (noted l c (serve (l .config) c)) cs ss (subst (λ (x : Seen). Kept (x .config) cs ss) (K .0) (K .1))
+
+pub tie : TieClaim
+tie g start marks area o e cs ss K =
+    let r : Reply = opening g start marks area in
+    ap (λ (a : Account). account a cs ss) (ap opened e ∙ ap (accountWith (begun r)) (tells r area (demand1 .opening-confined g start marks area .told)))
+    ∙ tied (begun r) cs ss (subst (λ (x : Seen). Kept (x .config) cs ss) e K)
+
+-- ---- the two lines
+-- The words of the first events are the first words.
+words-first : (es : List Event) {fs : List Event} → IsPrefix es fs → IsPrefix (words es) (words fs)
+words-first es (gs, e) = (words gs, sym (words-append es gs) ∙ ap words e)
+
+-- What is proved of the events of a line, of its event words.
+in-words : (g : Image) (start : ℕ) (vs : List ℕ) (l : Line) → Agrees g start vs l → Agree g start vs (words (lineA g start)) (accountOf l)
+in-words g start vs l A = record { first = words-first (l .events) (A .first); ends = A .ends; all = λ calm end. ap words (A .all calm end); bound = A .bound; below = A .below; restored = A .restored; faultless = A .faultless }
+
+pub two-lines : TwoLinesClaim
+two-lines g start marksA eventsA t marksA′ eventsA′ taken P marks area h o e cs ss K vs E =
+    rw (line-a g start marksA eventsA t marksA′ eventsA′ (rw taken at P), tie g start marks area o e cs ss K)
+    (in-words g start vs (lineB folded g start marks area cs) (agreement g start marks area h vs E cs))
