@@ -5,25 +5,25 @@ use mathlib.Core.Path.{_≡_, refl, sym, ap, _∙_, subst}
 use mathlib.Core.Logic.{_≢_}
 use mathlib.Core.Bool.{Bool, true, false, not, _&&_, cond}
 use mathlib.Core.List.{List, [], _∷_, _++_, append-assoc, append-nil}
-use Prim.Native.Nat.{ℕ, zero, suc, _+_, _-_, _*_, _≤_, _<_}
+use Prim.Native.Nat.{ℕ, zero, suc, _+_, _-_, _*_, _≤_}
 use native.Mathlib.Omega.{arith}
 use lib.Dec.{eqb, ltb, leb}
 use lib.ListN.{length, length-append}
-use borrow.Author.Tests.{eqb-false, ltb-true, ltb-false, leb-true, not-false}
-use Rattle.lists.specs.Words.{at, overlay, pasted}
-use Rattle.lists.proofs.Tests.{both, clash, neither}
+use borrow.Author.Tests.{ltb-false, leb-true, not-false}
+use Rattle.lists.specs.Words.{overlay, pasted}
+use Rattle.lists.proofs.Tests.{clash, neither}
 use Rattle.lists.proofs.Words.{pasted-front, pasted-pasted}
-use Rattle.graphs.specs.Nodes.{isVertex, isEdge, isLink, isNode}
-use Rattle.graphs.proofs.Nodes.{vertex-is, edge-is, link-not-null, link-node}
+use Rattle.graphs.proofs.Nodes.{vertex-is, link-not-null, link-node}
 use Rattle.graphs.specs.Events.{Event, words}
 use Rattle.graphs.proofs.Room.{words-length}
 use Rattle.graphs.specs.Refusals.{refuse, firstOf, Lent, lent, short, vertexOut, sizeRefusals}
 use Rattle.graphs.proofs.Refusals.{all-false, long}
 use Rattle.walks.proofs.Numbers.{more-lent, own-test}
 use Rattle.walks.proofs.Writing.{words-append}
-use Rattle.folding.specs.Machine.{Config, rollingBack, target, forward, fresh, tree, nontree, relink, retreat, finish, undo-tree, undo-open, pickStep, stepOf, closed, upward, fits, Stepped, enact, canStep, step}
+use Rattle.folding.specs.Machine.{Config, stepOf, fits, canStep, step}
 use Rattle.folding.specs.Calls.{ended, spent, stuck, ran, taken, refusing, over, fieldsIn, stateNumber, workAreas, runNumber, stepRefusals, stepNumber, Run, stop, onward, run, runFor, single, perform, serve}
 use Rattle.folding.proofs.Fields.{Fields, fields-are}
+use Rattle.folding.proofs.Confined.{Kept, step-kept}
 use Rattle.states.specs.declared.values.State.{State}
 use Rattle.states.specs.declared.values.Reason.{Reason}
 use Rattle.states.specs.declared.values.Reason.the-variants.{Ended, Spent, Stuck}
@@ -46,38 +46,41 @@ pub work-number : (s : State) (after tail marks : List ℕ) (k : ℕ) (area : Li
     → j ≡ stateNumber (configOf s after tail marks) (workAreas (configOf s after tail marks) k area) []
 work-number s after tail marks k area a number = number after tail marks (workAreas (configOf s after tail marks) k area) (a ∙ work-long (configOf s after tail marks) k area)
 
--- Null, or an edge.
-link-low : (n m x : ℕ) → isLink n m x ≡ true → x ≢ 0 → n < x
-link-low n m x h ne = link-not-null n m x h ne .0
+-- A state whose fields are in kind, with sizes within the limits and areas as long as stated, is ready.
+ready-of : (s : State) (after tail marks : List ℕ) → Fields (configOf s after tail marks) → s .n ≤ 1000 → s .m ≤ 4000 → s .n + s .m ≤ length after → s .m ≤ length tail → s .n + s .m ≤ length marks → Ready s (length after) (length tail) (length marks)
+ready-of s after tail marks K n m a t k =
+    let v = vertex-is (s .n) (s .v .0) (K .v-in) in
+    record {
+      few-vertices = n;
+      few-edges = m;
+      v-low = v .0;
+      v-high = v .1;
+      e-low = λ ne. link-not-null (s .n) (s .m) (s .e .0) (K .e-in) ne .0;
+      e-high = leb-true (s .e .0) (s .n + s .m) (link-node (s .n) (s .m) (s .e .0) (K .e-in));
+      f-high = leb-true (s .f) (s .n + s .m) (K .f-in);
+      next-high = K .next-high;
+      long-after = a;
+      long-tail = t;
+      long-marks = k;
+    }
 
-link-high : (n m x : ℕ) → isLink n m x ≡ true → x ≤ n + m
-link-high n m x h = leb-true x (n + m) (link-node n m x h)
+-- None of the five conditions that a call with a state meets first is true: the fields are in kind, the state is ready, and the event words
+-- are as many as stated.
+pub record Taken (s : State) (after tail marks : List ℕ) (k : ℕ) (area : List ℕ) : Type 0 where
+  pub fields : Fields (configOf s after tail marks)
+  pub ready : Ready s (length after) (length tail) (length marks)
+  pub room : k ≤ length area
 
--- None of the five conditions that a call with a state meets first is true: the state is ready, and the event words are as many as stated.
-pub ready : (s : State) (after tail marks : List ℕ) (k : ℕ) (area : List ℕ) → 0 ≡ stateNumber (configOf s after tail marks) (workAreas (configOf s after tail marks) k area) [] → Ready s (length after) (length tail) (length marks) × (k ≤ length area)
-ready s after tail marks k area h =
+pub not-refused : (s : State) (after tail marks : List ℕ) (k : ℕ) (area : List ℕ) → 0 ≡ stateNumber (configOf s after tail marks) (workAreas (configOf s after tail marks) k area) [] → Taken s after tail marks k area
+not-refused s after tail marks k area h =
     let w = configOf s after tail marks in
     let A = all-false (sizeRefusals (w .n) (w .m) (workAreas w k area) ++ refuse 4 (vertexOut (w .n) (w .start)) ∷ refuse 8 (not (fieldsIn w)) ∷ []) [] (omega arith) (sym h) .0 in
     let K : Fields w = fields-are w (not-false (fieldsIn w) (A .1 .1 .1 .1 .0)) in
-    let v = vertex-is (w .n) (w .v) (K .v-in) in
     let a = long (w .n + w .m) after (lent (w .m) tail ∷ lent (w .n + w .m) marks ∷ lent k area ∷ []) (A .1 .1 .0) in
     let b = long (w .m) tail (lent (w .n + w .m) marks ∷ lent k area ∷ []) (a .1) in
-    let c = long (w .n + w .m) marks (lent k area ∷ []) (b .1) in (
-      record {
-        few-vertices = ltb-false 1000 (w .n) (neither (eqb (w .n) 0) (ltb 1000 (w .n)) (A .0) .1);
-        few-edges = ltb-false 4000 (w .m) (A .1 .0);
-        v-low = v .0;
-        v-high = v .1;
-        e-low = link-low (w .n) (w .m) (w .e) (K .e-in);
-        e-high = link-high (w .n) (w .m) (w .e) (K .e-in);
-        f-high = leb-true (w .f) (w .n + w .m) (K .f-in);
-        next-high = K .next-high;
-        long-after = a .0;
-        long-tail = b .0;
-        long-marks = c .0;
-      },
-      long k area [] (c .1) .0,
-    )
+    let c = long (w .n + w .m) marks (lent k area ∷ []) (b .1) in
+    let n = ltb-false 1000 (w .n) (neither (eqb (w .n) 0) (ltb 1000 (w .n)) (A .0) .1) in
+    record { fields = K; ready = ready-of s after tail marks K n (ltb-false 4000 (w .m) (A .1 .0)) (a .0) (b .0) (c .0); room = long k area [] (c .1) .0 }
 
 -- ---- a step tried
 module _ {x : Attempt} (w : Config) (k : ℕ) (area : List ℕ) (e : x ≡ trying w (stepOf w) k area) where
@@ -139,114 +142,6 @@ module _ (s : State) (after tail marks area : List ℕ) {k : ℕ} (e : k ≡ sta
           ∙ (λ i. record { answer = taken; steps = 1; count = c i; config = step at-step .config; area = pasted-front (words es) area i })
           ∙ ap seenOf (sym (serve-taken at-step (single area) (own-number o (T .0))))
 
--- ---- what a step leaves
--- Vertex, edge, trailer and next label in kind.
-record Placed (w : Config) : Type 0 where
-  v-low : 0 < w .v
-  v-high : w .v ≤ w .n
-  e-low : w .e ≢ 0 → w .n < w .e
-  e-high : w .e ≤ w .n + w .m
-  f-high : w .f ≤ w .n + w .m
-  next-high : w .next ≤ suc (w .n)
-
--- It leaves them in kind, the sizes as they were, and at most two events.
-record Moved (w : Config) (s : Stepped) : Type 0 where
-  placed : Placed (s .config)
-  same-n : s .config .n ≡ w .n
-  same-m : s .config .m ≡ w .m
-  few : length (s .events) ≤ 2
-
-module _ (w : Config) (P : Placed w) where
-  tree-moved : fits w tree ≡ true → Moved w (enact w tree)
-  unfolding fits enact
-  tree-moved h =
-      let x = target w (w .e) in
-      let a = both (isVertex (w .n) x) (leb (w .next) (w .n) && isLink (w .n) (w .m) (at 0 (closed w) x)) h in
-      let b = both (leb (w .next) (w .n)) (isLink (w .n) (w .m) (at 0 (closed w) x)) (a .1) in
-      let u = vertex-is (w .n) x (a .0) in
-      record {
-        placed = record { v-low = u .0; v-high = u .1; e-low = link-low (w .n) (w .m) (at 0 (closed w) x) (b .1); e-high = link-high (w .n) (w .m) (at 0 (closed w) x) (b .1); f-high = omega (arith, P .v-high); next-high = omega (arith, leb-true (w .next) (w .n) (b .0)) };
-        same-n = refl;
-        same-m = refl;
-        few = omega arith;
-      }
-
-  nontree-moved : fits w nontree ≡ true → Moved w (enact w nontree)
-  unfolding fits enact
-  nontree-moved h =
-      let a = both (isVertex (w .n) (target w (w .e))) (isLink (w .n) (w .m) (at 0 (w .after) (w .e))) h in
-      record {
-        placed = record { v-low = P .v-low; v-high = P .v-high; e-low = link-low (w .n) (w .m) (at 0 (w .after) (w .e)) (a .1); e-high = link-high (w .n) (w .m) (at 0 (w .after) (w .e)) (a .1); f-high = P .e-high; next-high = P .next-high };
-        same-n = refl;
-        same-m = refl;
-        few = omega arith;
-      }
-
-  relink-moved : ltb (w .n) (w .f) ≡ true → fits w relink ≡ true → Moved w (enact w relink)
-  unfolding fits enact
-  relink-moved c h = record {
-    placed = record { v-low = P .v-low; v-high = P .v-high; e-low = λ ne. ltb-true (w .n) (w .f) c; e-high = P .f-high; f-high = leb-true (at 0 (w .after) (w .f)) (w .n + w .m) h; next-high = P .next-high };
-    same-n = refl;
-    same-m = refl;
-    few = omega arith;
-  }
-
-  finish-moved : Moved w (enact w finish)
-  unfolding enact
-  finish-moved = record { placed = record { v-low = P .v-low; v-high = P .v-high; e-low = P .e-low; e-high = P .e-high; f-high = P .f-high; next-high = P .next-high }; same-n = refl; same-m = refl; few = omega arith }
-
-  undo-open-moved : Moved w (enact w undo-open)
-  unfolding enact
-  undo-open-moved = record { placed = record { v-low = P .v-low; v-high = P .v-high; e-low = P .e-low; e-high = P .e-high; f-high = P .f-high; next-high = P .next-high }; same-n = refl; same-m = refl; few = omega arith }
-
-  module _ (c : ltb (w .n) (w .f) ≡ false) (d : eqb (w .f) 0 ≡ false) where
-    -- A trailer that is no edge and not null is a vertex.
-    f-low : 0 < w .f
-    f-low = let ne : w .f ≡ 0 → ⊥ = eqb-false (w .f) 0 d in omega arith
-
-    retreat-moved : fits w retreat ≡ true → Moved w (enact w retreat)
-    unfolding fits enact
-    retreat-moved h =
-        let y = at 0 (closed w) (upward w) in
-        let a = both (isEdge (w .n) (w .m) (upward w)) (isNode (w .n) (w .m) (target w (upward w)) && isLink (w .n) (w .m) y) h in
-        let b = both (isNode (w .n) (w .m) (target w (upward w))) (isLink (w .n) (w .m) y) (a .1) in
-        record {
-          placed = record { v-low = f-low; v-high = ltb-false (w .n) (w .f) c; e-low = link-low (w .n) (w .m) y (b .1); e-high = link-high (w .n) (w .m) y (b .1); f-high = edge-is (w .n) (w .m) (upward w) (a .0) .1; next-high = P .next-high };
-          same-n = refl;
-          same-m = refl;
-          few = omega arith;
-        }
-
-    undo-tree-moved : fits w undo-tree ≡ true → Moved w (enact w undo-tree)
-    unfolding fits enact
-    undo-tree-moved h =
-        let a = both (isEdge (w .n) (w .m) (upward w)) (isNode (w .n) (w .m) (target w (upward w))) h in
-        let r = edge-is (w .n) (w .m) (upward w) (a .0) in
-        record {
-          placed = record { v-low = f-low; v-high = ltb-false (w .n) (w .f) c; e-low = λ ne. r .0; e-high = r .1; f-high = leb-true (target w (upward w)) (w .n + w .m) (a .1); next-high = P .next-high };
-          same-n = refl;
-          same-m = refl;
-          few = omega arith;
-        }
-
-  moved-at : (a b c d x : Bool) → ltb (w .n) (w .f) ≡ c → eqb (w .f) 0 ≡ d → fits w (pickStep a b c d x) ≡ true → Moved w (enact w (pickStep a b c d x))
-  moved-at true true c d x p q h = tree-moved h
-  moved-at true false c d x p q h = nontree-moved h
-  moved-at false b true d x p q h = relink-moved p h
-  moved-at false b false true false p q h = finish-moved
-  moved-at false b false true true p q h = undo-open-moved
-  moved-at false b false false false p q h = retreat-moved p q h
-  moved-at false b false false true p q h = undo-tree-moved p q h
-
-  -- The step to come.
-  step-moved : canStep w ≡ true → Moved w (step w)
-  unfolding stepOf
-  step-moved = moved-at (forward w) (fresh w) (ltb (w .n) (w .f)) (eqb (w .f) 0) (eqb (w .phase) rollingBack) refl refl
-
--- A state that is ready.
-placed-state : {s : State} {a t k : ℕ} (after tail marks : List ℕ) → Ready s a t k → Placed (configOf s after tail marks)
-placed-state after tail marks R = record { v-low = R .v-low; v-high = R .v-high; e-low = R .e-low; e-high = R .e-high; f-high = R .f-high; next-high = R .next-high }
-
 -- ---- a run
 -- Steps made, and their events, in front of a run.
 abbrev behind : ℕ → List Event → Run → Run
@@ -291,6 +186,7 @@ pub record Going (k : ℕ) (w₀ : Config) (area₀ : List ℕ) (s : State) (aft
   pub same : run k w₀ ≡ behind steps log (run (k - steps) (configOf s after tail marks))
   pub written : area ≡ overlay (words log) area₀
   pub number : count ≡ length log
+  pub fields : Fields (configOf s after tail marks)
   pub ready : Ready s (length after) (length tail) (length marks)
   pub most : steps ≤ k
   pub room : 3 * count + 6 * (k - steps) ≤ length area
@@ -300,8 +196,8 @@ pub record Going (k : ℕ) (w₀ : Config) (area₀ : List ℕ) (s : State) (aft
   pub same-area : length area ≡ length area₀
 
 -- No step made yet.
-pub begun : (k : ℕ) (s : State) (after tail marks area : List ℕ) → Ready s (length after) (length tail) (length marks) → 6 * k ≤ length area → Going k (configOf s after tail marks) area s after tail marks area 0 0
-begun k s after tail marks area R h = record {
+pub begun : (k : ℕ) (s : State) (after tail marks area : List ℕ) → Fields (configOf s after tail marks) → Ready s (length after) (length tail) (length marks) → 6 * k ≤ length area → Going k (configOf s after tail marks) area s after tail marks area 0 0
+begun k s after tail marks area K R h = record {
   log = [];
   same = let r : Run = run k (configOf s after tail marks) in
       let z : r .steps ≡ 0 + r .steps = omega arith in
@@ -309,6 +205,7 @@ begun k s after tail marks area R h = record {
       (λ i. record { reason = r .reason; steps = z i; events = r .events; config = r .config }) ∙ ap (λ (j : ℕ). behind 0 [] (run j (configOf s after tail marks))) y;
   written = refl;
   number = refl;
+  fields = K;
   ready = R;
   most = omega arith;
   room = omega arith;
@@ -363,30 +260,19 @@ module _ {k : ℕ} {w₀ : Config} {area₀ : List ℕ} {s : State} {after tail 
             let es = step w .events in
             let c : u ≡ step w .config = ap (λ (x : Attempt). x .config) (T .1) in
             let more : r .made ≡ count + length es = ap (λ (x : Attempt). x .count) (T .1) in
-            let M : Moved w (step w) = step-moved w (placed-state after tail marks (G .ready)) (T .0) in
-            let P : Placed u = subst Placed (sym c) (M .placed) in
-            let n : r .state .n ≡ s .n = ap (λ (x : Config). x .n) c ∙ M .same-n in
-            let m : r .state .m ≡ s .m = ap (λ (x : Config). x .m) c ∙ M .same-m in
             let R = G .ready in
+            let M : Kept w (step w) = step-kept w (G .fields) (omega (arith, R .long-marks)) (T .0) in
+            let K : Fields u = subst Fields (sym c) (M .fields) in
+            let n : r .state .n ≡ s .n = ap (λ (x : Config). x .n) c ∙ M .within .same-n in
+            let m : r .state .m ≡ s .m = ap (λ (x : Config). x .m) c ∙ M .within .same-m in
             let next : run (k - steps) w ≡ onward es (run (k - (steps + 1)) u) = ap (λ (j : ℕ). run j w) left ∙ run-on (k - (steps + 1)) w o (T .0) ∙ ap (λ (x : Config). onward es (run (k - (steps + 1)) x)) (sym c) in
             record {
               log = G .log ++ es;
               same = G .same ∙ ap (behind steps (G .log)) next ∙ behind-onward steps (G .log) es (run (k - (steps + 1)) u);
               written = ap (λ (x : Attempt). x .area) (T .1) ∙ (λ i. pasted (3 * G .number i) (words es) (G .written i)) ∙ written-behind (G .log) es area₀ (omega (arith, G .room, G .number, G .same-area));
               number = more ∙ (λ i. G .number i + length es) ∙ sym (length-append (G .log) es);
-              ready = record {
-                few-vertices = omega (arith, n, R .few-vertices);
-                few-edges = omega (arith, m, R .few-edges);
-                v-low = P .v-low;
-                v-high = P .v-high;
-                e-low = P .e-low;
-                e-high = P .e-high;
-                f-high = P .f-high;
-                next-high = P .next-high;
-                long-after = omega (arith, n, m, la, R .long-after);
-                long-tail = omega (arith, m, lt, R .long-tail);
-                long-marks = omega (arith, n, m, lm, R .long-marks);
-              };
+              fields = K;
+              ready = ready-of (r .state) after′ tail′ marks′ K (omega (arith, n, R .few-vertices)) (omega (arith, m, R .few-edges)) (omega (arith, n, m, la, R .long-after)) (omega (arith, m, lt, R .long-tail)) (omega (arith, n, m, lm, R .long-marks));
               most = let l = G .most in omega arith;
               room = omega (arith, more, M .few, left, G .room, le);
               same-after = la ∙ G .same-after;

@@ -1,5 +1,4 @@
 -- A step tried on any words that its areas hold: it fits and is made, or it is out of kind and nothing changes.
-use mathlib.Core.Path.{_≡_}
 use mathlib.Core.Logic.{_≢_}
 use mathlib.Core.Bool.{Bool, true, false, cond, _&&_}
 use mathlib.Core.List.{List}

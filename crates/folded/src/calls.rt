@@ -14,6 +14,7 @@ ghost use Prim.Native.Nat.{ℕ, _+_, _*_, _≤_};
 ghost use lib.Dec.{leb};
 ghost use lib.ListN.{length};
 ghost use Rattle.folding.specs.Calls.{runFor, single, serve, perform};
+ghost use Rattle.folding.proofs.Fields.{Fields};
 ghost use Rattle.states.specs.Answers.{configOf, seenOf, told, toldRan};
 ghost use Rattle.folded.specs.Steps.{Ready};
 
@@ -88,7 +89,7 @@ fn drive(
     marks: &mut [u16],
     events: &mut [u16],
 ) -> Reply
-    requires { ⌜ Ready s (length (now after)) (length (now tail)) (length (now marks)) × (6 * budget ≤ length (now events)) ⌝ }
+    requires { ⌜ Ready s (length (now after)) (length (now tail)) (length (now marks)) × Fields (configOf s (now after) (now tail) (now marks)) × (6 * budget ≤ length (now events)) ⌝ }
     ensures { λ r. ⌜ told r (now (after .exit)) (now (tail .exit)) (now (marks .exit)) (now (events .exit)) ≡ seenOf (perform (configOf s (now (after .entry)) (now (tail .entry)) (now (marks .entry))) (runFor budget (now (events .entry)))) ⌝ }
 {
     let mut t = s;

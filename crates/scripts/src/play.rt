@@ -92,7 +92,16 @@ pub fn replay(
     }
     let mut at: usize = 0;
     while script.len() - at >= 3 {
-        p = perform(script[at], script[at + 1], script[at + 2], p, after, tail, marks, events);
+        p = perform(
+            script[at],
+            script[at + 1],
+            script[at + 2],
+            p,
+            after,
+            tail,
+            marks,
+            events,
+        );
         at += 3;
     }
     p

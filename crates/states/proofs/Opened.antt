@@ -14,7 +14,7 @@ use Rattle.graphs.specs.Refusals.{lent, searchNumber}
 use Rattle.graphs.proofs.Refusals.{long}
 use Rattle.graphs.proofs.Results.{marks-first}
 use Rattle.graphs.proofs.Sound.{profile-sound}
-use Rattle.folding.specs.Calls.{Reply, refusing, unless, unopened, openNumber, openedAt, openReply, opening}
+use Rattle.folding.specs.Calls.{refusing, unless, unopened, openNumber, openedAt, openReply, opening}
 use Rattle.walks.specs.Writing.{Roomy}
 use Rattle.walks.proofs.Writing.{Starts, beginning}
 

@@ -23,7 +23,7 @@ abbrev μ-loop : tie.MeasureT-loop
 
 -- src/calls.rt:97:5
 loop-holds : tie.Need-loop-holds Inv-loop μ-loop
-loop-holds c = let z = c .before .before .before .before .args in begun (z .budget) (z .s) (z .after .now) (z .tail .now) (z .marks .now) (z .events .now) (c .before .before .before .before .pre .0) (c .before .before .before .before .pre .1)
+loop-holds c = let z = c .before .before .before .before .args in begun (z .budget) (z .s) (z .after .now) (z .tail .now) (z .marks .now) (z .events .now) (c .before .before .before .before .pre .1) (c .before .before .before .before .pre .0) (c .before .before .before .before .pre .2)
 
 -- src/calls.rt:98:12
 is-over-requires : tie.Need-is-over-requires Inv-loop μ-loop

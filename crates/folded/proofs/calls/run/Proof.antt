@@ -1,7 +1,7 @@
 use mathlib.Core.Path.{sym, ap, _∙_}
 use Prim.Native.Nat.{_*_}
 use Rattle.states.specs.Answers.{seenOf, configOf}
-use Rattle.folded.proofs.Driving.{work-number, ready, run-refused, run-taken}
+use Rattle.folded.proofs.Driving.{work-number, not-refused, run-refused, run-taken}
 use borrow.Author.Needs.{needs}
 use Rattle.folded.proofs.calls.run.Statement.{statement}
 use Rattle.folded.proofs.calls.run.Tie as tie
@@ -36,7 +36,8 @@ returns c = let z = c .before .before .before .before .before .before .before .b
 -- src/calls.rt:131:5
 drive-requires : tie.Need-drive-requires
 drive-requires c κs = let z = c .before .before .before .before .before .before .before .before .before .before .before .args in let e = work-number (z .s) (z .after .now) (z .tail .now) (z .marks .now) (6 * z .budget) (z .events .now) (c .before .before .before .before .before .before .are-long .ensures) (c .before .before .before .before .before .state-number .ensures) in
-    ready (z .s) (z .after .now) (z .tail .now) (z .marks .now) (6 * z .budget) (z .events .now) (sym (c .before .before .before .before .if1 .left) ∙ e)
+    let T = not-refused (z .s) (z .after .now) (z .tail .now) (z .marks .now) (6 * z .budget) (z .events .now) (sym (c .before .before .before .before .if1 .left) ∙ e) in
+    (T .ready, T .fields, T .room)
 
 -- src/calls.rt:115:1
 same-length : tie.Need-same-length

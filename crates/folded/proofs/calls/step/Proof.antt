@@ -1,7 +1,7 @@
 use mathlib.Core.Path.{sym, ap, _∙_}
 use borrow.Author.Tests.{not-true, not-false}
 use Rattle.states.specs.Answers.{seenOf}
-use Rattle.folded.proofs.Driving.{work-number, ready, step-refused, step-over, step-stuck, step-taken}
+use Rattle.folded.proofs.Driving.{work-number, not-refused, step-refused, step-over, step-stuck, step-taken}
 use borrow.Author.Needs.{needs}
 use Rattle.folded.proofs.calls.step.Statement.{statement}
 use Rattle.folded.proofs.calls.step.Tie as tie
@@ -46,7 +46,8 @@ returns-2 c = let z = c .before .before .before .before .before .before .before 
 -- src/calls.rt:57:9
 make-requires : tie.Need-make-requires
 make-requires c κs = let z = c .before .before .before .before .before .before .before .before .before .before .before .before .before .args in let e = work-number (z .s) (z .after .now) (z .tail .now) (z .marks .now) 6 (z .events .now) (c .before .before .before .before .before .before .before .before .are-long .ensures) (c .before .before .before .before .before .before .before .state-number .ensures) in
-    ready (z .s) (z .after .now) (z .tail .now) (z .marks .now) 6 (z .events .now) (sym (c .before .before .before .before .before .before .if1 .left) ∙ e)
+    let T = not-refused (z .s) (z .after .now) (z .tail .now) (z .marks .now) 6 (z .events .now) (sym (c .before .before .before .before .before .before .if1 .left) ∙ e) in
+    (T .ready, T .room)
 
 -- src/calls.rt:59:9
 refused-requires-3 : tie.Need-refused-requires-3

@@ -8,7 +8,7 @@ use Rattle.images.specs.Checking.{image}
 use Rattle.walks.proofs.Numbers.{more-lent, own-test}
 use Rattle.folding.specs.Calls.{taken, refusing}
 use Rattle.states.specs.Answers.{seenOf}
-use Rattle.states.proofs.Opened.{open-refused, open-taken, Opens, opens, opened}
+use Rattle.states.proofs.Opened.{open-refused, open-taken, opens, opened}
 use Rattle.folding.specs.Machine.{Config}
 use borrow.Author.Needs.{needs}
 use Rattle.states.proofs.opening.open.Statement.{statement}
