@@ -1,8 +1,10 @@
 -- The claims of specs/TwoLines: what the calls promise is the two lines of folding/, where demand 3 is proved of their events.
 use mathlib.Core.Path.{_≡_, refl, sym, ap, _∙_, subst}
+use mathlib.Core.Bool.{cond}
 use mathlib.Core.List.{List, [], _∷_, _++_, IsPrefix}
 use Prim.Native.Nat.{ℕ, _*_}
 use native.Mathlib.Omega.{arith}
+use lib.Dec.{eqb}
 use lib.ListN.{length, take, drop, length-reverse}
 use lib.Seq.{take-at}
 use Rattle.lists.specs.Counts.{sumOf}
@@ -13,13 +15,14 @@ use Rattle.graphs.proofs.Results.{tally-sums}
 use Rattle.graphs.proofs.Room.{words-length}
 use Rattle.walks.specs.Promises.{depthWalk}
 use Rattle.walks.proofs.Writing.{words-append}
-use Rattle.folding.specs.Calls.{Reply, Call, areaOf, serve, opening}
+use Rattle.folding.specs.Calls.{Reply, Call, areaOf, serve, opening, openNumber}
 use Rattle.folding.specs.Lines.{Line, lineA, lineB, folded, noted, calls, begun}
 use Rattle.folding.specs.Claims.{Agrees}
 use Rattle.folding.proofs.AnyInput.{demand1}
 use Rattle.folding.proofs.Agreement.{agreement}
 use Rattle.states.specs.Answers.{Seen, seenOf}
-use Rattle.walkers.specs.TwoLines.{LineAClaim, Kept, Account, written, opened, added, account, accountOf, TieClaim, Agree, TwoLinesClaim}
+use Rattle.scripts.specs.Script.{scripted, replayed}
+use Rattle.walkers.specs.TwoLines.{LineAClaim, Kept, Account, written, opened, added, account, accountOf, TieClaim, Agree, TwoLinesClaim, ReplayClaim}
 
 -- ---- line A
 -- The words of events stand in front of the area that they are written to, three for each.
@@ -75,3 +78,6 @@ pub two-lines : TwoLinesClaim
 two-lines g start marksA eventsA t marksA′ eventsA′ taken P marks area h o e cs ss K vs E =
     rw (line-a g start marksA eventsA t marksA′ eventsA′ (rw taken at P), tie g start marks area o e cs ss K)
     (in-words g start vs (lineB folded g start marks area cs) (agreement g start marks area h vs E cs))
+
+pub replay-agrees : ReplayClaim
+replay-agrees g start marks area h script vs E = in-words g start vs (replayed g start marks area script) (agreement g start marks area h vs E (cond (eqb (openNumber g start marks area) 0) (scripted (begun (opening g start marks area)) area script) []))

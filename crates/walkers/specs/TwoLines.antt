@@ -17,6 +17,7 @@ use Rattle.folding.specs.Calls.{Answer, Call, serve, opening, openNumber}
 use Rattle.folding.specs.Lines.{Line, lineA, lineB, folded, orders, addIf}
 use Rattle.folding.specs.Claims.{Faultless}
 use Rattle.states.specs.Answers.{Seen, seenOf}
+use Rattle.scripts.specs.Script.{replayed}
 use Rattle.walkers.specs.Claims.{Promised}
 
 -- ---- line A
@@ -93,3 +94,8 @@ TwoLinesClaim = (g : Image) (start : ℕ) (marksA eventsA t marksA′ eventsA′
     → (marks area : List ℕ) → openNumber g start marks area ≡ 0 → (o : Seen) → o ≡ seenOf (opening g start marks area)
     → (cs : List Call) (ss : List Seen) → Kept (o .config) cs ss
     → (vs : List ℕ) → Reached (graphOf g) [] start vs → Agree g start vs (toldBy t eventsA′) (account (opened o) cs ss)
+
+-- Demand 3 of `replay`, which performs the calls of a script one after the other: whatever the words of the script.
+abbrev pub ReplayClaim : Type 0
+ReplayClaim = (g : Image) (start : ℕ) (marks area : List ℕ) → openNumber g start marks area ≡ 0 → (script : List ℕ)
+    → (vs : List ℕ) → Reached (graphOf g) [] start vs → Agree g start vs (words (lineA g start)) (accountOf (replayed g start marks area script))

@@ -122,7 +122,7 @@ mul-after-2 c = search needs
 
 -- src/back.rt:87:5
 slice-write-after-2 : tie.Need-slice-write-after-2
-slice-write-after-2 c = let z = c .before .before .before .before .before .before .before .before .before .before .before .args in let U = upward-is (configOf (z .s) (z .after .now) (z .tail .now) []) (c .before .before .before .before .before .tree-edge .ensures []) (c .before .before .before .before .if1 .left) in omega (arith, U .low, U .high, c .before .before .before .before .before .before .before .before .before .before .before .pre .0 .long-after, length-set (z .after .now) (z .s .v .0 - 1) (z .s .e .0))
+slice-write-after-2 c = let z = c .before .before .before .before .before .before .before .before .before .before .before .args in let U = upward-is (configOf (z .s) (z .after .now) (z .tail .now) []) (c .before .before .before .before .before .tree-edge .ensures []) (c .before .before .before .before .if1 .left) in simp length-set (omega (arith, U .low, U .high, c .before .before .before .before .before .before .before .before .before .before .before .pre .0 .long-after))
 
 -- src/back.rt:88:5
 write-two-requires : tie.Need-write-two-requires
