@@ -169,12 +169,20 @@ module _ (g : Image) (S : Sound g) (start : ℕ) (hs : Vertex (g .n) start) (are
   under-way t (at-end K e calm cnt) z = inl (ap (λ (w : Config). w .phase) (K .is-config))
   under-way t (at-undone K x ro cnt) z = clash (sym ro ∙ z)
 
-  -- All steps are at most 2 m + n.
-  total-most : 2 * advances (allOf g start) + scans (allOf g start) ≤ 2 * g .m + g .n
-  total-most =
+  -- Line A's advances are at most m, its scans at most n.
+  pub counts-most : (advances (allOf g start) ≤ g .m) × (scans (allOf g start) ≤ g .n)
+  counts-most =
       let E = depth-first (graphOf g) [] start R .complete .labels in
       let L = reached-labels (graphOf g) [] start R (labelled (allOf g start)) E in
-      omega (arith, met-is g start R (labelled (allOf g start)) E, reached-is g start R (labelled (allOf g start)) E, met-most (image-owned g S) (labelled (allOf g start)) L, labels-few (g .n) (labelled (allOf g start)) L)
+      let a = met-is g start R (labelled (allOf g start)) E in
+      let b = reached-is g start R (labelled (allOf g start)) E in
+      let p = met-most (image-owned g S) (labelled (allOf g start)) L in
+      let q = labels-few (g .n) (labelled (allOf g start)) L in
+      (omega arith, omega arith)
+
+  -- All steps are at most 2 m + n.
+  total-most : 2 * advances (allOf g start) + scans (allOf g start) ≤ 2 * g .m + g .n
+  total-most = omega (arith, counts-most .0, counts-most .1)
 
   -- A run that says spent or ended, and is not over, has spent its budget.
   spent-all : (k made : ℕ) (w : Config) (why : Reason) → why ≡ stopReason k made w → Free why → over w ≡ false → made ≡ k
@@ -198,14 +206,14 @@ module _ (g : Image) (S : Sound g) (start : ℕ) (hs : Vertex (g .n) start) (are
 -- ---- the claims
 -- What an opening taken leaves meets the invariant, and so does every list of calls.
 module _ (g : Image) (start : ℕ) (marks area : List ℕ) (h : openNumber g start marks area ≡ 0) where
-  profile : Profile g start (lent (g .n + g .m) marks ∷ lent 3 area ∷ [])
+  pub profile : Profile g start (lent (g .n + g .m) marks ∷ lent 3 area ∷ [])
   unfolding openNumber
   profile = profile-sound g start (lent (g .n + g .m) marks ∷ lent 3 area ∷ []) h
 
-  marks-long : g .n + g .m ≤ length marks
+  pub marks-long : g .n + g .m ≤ length marks
   marks-long = long (g .n + g .m) marks (lent 3 area ∷ []) (profile .areas-long) .0
 
-  held : (cs : List Call) → Held g (profile .sound) start (profile .start-vertex) marks marks-long (lineB folded g start marks area cs)
+  pub held : (cs : List Call) → Held g (profile .sound) start (profile .start-vertex) marks marks-long (lineB folded g start marks area cs)
   unfolding opening
   held cs =
       calls-held g (profile .sound) start (profile .start-vertex) marks marks-long (begun (opening g start marks area)) cs

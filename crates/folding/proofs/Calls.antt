@@ -234,7 +234,7 @@ module _ (g : Image) (S : Sound g) (start : ℕ) (hs : Vertex (g .n) start) (are
   order-called l H true f = by-number l rollBack 9 (order-number (l .config) (refuse 9 (over (l .config)) ∷ []) (sized (traceOf l (H .history)) (H .holds)) ∙ (λ i. firstOf (refuse 9 (f i) ∷ []))) (refused-held l rollBack 9 [] (eqb-false 9 8 refl) refl H)
   order-called l H false f = by-number l rollBack 0 (order-number (l .config) (refuse 9 (over (l .config)) ∷ []) (sized (traceOf l (H .history)) (H .holds)) ∙ (λ i. firstOf (refuse 9 (f i) ∷ []))) (order-held l H f)
 
-  call-held : (l : Line) (c : Call) → Held l → Held (noted l c (serve (l .config) c))
+  pub call-held : (l : Line) (c : Call) → Held l → Held (noted l c (serve (l .config) c))
   call-held l (runFor k room) H = run-called l k room H (ltb (length room) (6 * k)) refl
   call-held l (single room) H = single-called l room H (ltb (length room) 6) (over (l .config)) refl refl
   call-held l rollBack H = order-called l H (over (l .config)) refl

@@ -12,6 +12,7 @@ pub mod Invariant
 pub mod Running
 pub mod Calls
 pub mod Agreement
+pub mod Totals
 -- The cards, and the wrong walkers.
 pub mod Cards
 pub mod Wrong

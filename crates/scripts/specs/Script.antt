@@ -2,7 +2,7 @@
 use mathlib.Core.Path.{_≡_}
 use mathlib.Core.Bool.{cond}
 use mathlib.Core.List.{List, [], _∷_, _++_}
-use Prim.Native.Nat.{ℕ, _≤_}
+use Prim.Native.Nat.{ℕ}
 use lib.Dec.{eqb}
 use lib.ListN.{length, take, drop}
 use Rattle.lists.specs.Words.{overlay}
@@ -51,4 +51,3 @@ pub record Playing (p : Reply) (after tail marks area : List ℕ) : Type 0 where
   pub list : List Call
   pub opened : openNumber image start marks₀ area₀ ≡ 0
   pub line : told p after tail marks area ≡ seenLine area₀ (lineB folded image start marks₀ area₀ list)
-  pub room : length (words (lineB folded image start marks₀ area₀ list .events)) ≤ length area₀
