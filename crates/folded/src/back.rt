@@ -89,7 +89,7 @@ pub(crate) fn retreat(
     after[k] = s.e.0; // a(v) becomes e at the end of a scan
     let j = (r - n - 1) as usize;
     let w = tail[j];
-    tail[j] = v; // t(r) is v again at the end of a scan
+    tail[j] = v;
     after[i] = w;
     write_two(events, made, 6, 0, v, 5, r, f);
     let u = Vertex(f);
@@ -141,7 +141,7 @@ pub(crate) fn undo_tree(s: State, after: &mut [u16], tail: &mut [u16], made: usi
     after[k] = s.e.0; // a(v) becomes e in a roll-back
     let j = (r - n - 1) as usize;
     let w = tail[j];
-    tail[j] = v; // t(r) is v again in a roll-back
+    tail[j] = v;
     let u = Vertex(s.f);
     let e = Edge(r);
     let mut t = s;
