@@ -1,28 +1,30 @@
--- The claims of specs/TwoLines: what the calls promise is the two lines of folding/, where demand 3 is proved of their events.
+-- The claims of specs/TwoLines: what the calls promise is the two lines of folding/, where demands 2 and 3 are proved of their events.
 use mathlib.Core.Path.{_≡_, refl, sym, ap, _∙_, subst}
 use mathlib.Core.Bool.{cond}
-use mathlib.Core.List.{List, [], _∷_, _++_, IsPrefix}
-use Prim.Native.Nat.{ℕ, _*_}
+use mathlib.Core.List.{List, [], _∷_, _++_, reverse, reverse-reverse, IsPrefix}
+use Prim.Native.Nat.{ℕ, _+_, _*_}
 use native.Mathlib.Omega.{arith}
 use lib.Dec.{eqb}
 use lib.ListN.{length, take, drop, length-reverse}
 use lib.Seq.{take-at}
 use Rattle.lists.specs.Counts.{sumOf}
 use Rattle.lists.specs.Words.{overlay}
-use Rattle.graphs.specs.Events.{Event, words}
-use Rattle.graphs.specs.Image.{Image}
+use Rattle.graphs.specs.Events.{Event, words, History}
+use Rattle.graphs.specs.Results.{marksLeft}
+use Rattle.graphs.specs.Image.{Image, graphOf}
+use Rattle.graphs.proofs.Depth.{depth-first}
 use Rattle.graphs.proofs.Results.{tally-sums}
-use Rattle.graphs.proofs.Room.{words-length}
+use Rattle.graphs.proofs.Room.{words-length, profile-ready}
 use Rattle.walks.specs.Promises.{depthWalk}
 use Rattle.walks.proofs.Writing.{words-append}
 use Rattle.folding.specs.Calls.{Reply, Call, areaOf, serve, opening, openNumber}
 use Rattle.folding.specs.Lines.{Line, lineA, lineB, folded, noted, calls, begun}
 use Rattle.folding.specs.Claims.{Agrees}
 use Rattle.folding.proofs.AnyInput.{demand1}
-use Rattle.folding.proofs.Agreement.{agreement}
+use Rattle.folding.proofs.Agreement.{profile, demand2, agreement}
 use Rattle.states.specs.Answers.{Seen, seenOf}
 use Rattle.scripts.specs.Script.{scripted, replayed}
-use Rattle.walkers.specs.TwoLines.{LineAClaim, Kept, Account, written, opened, added, account, accountOf, TieClaim, Agree, TwoLinesClaim, ReplayClaim}
+use Rattle.walkers.specs.TwoLines.{LineAClaim, Kept, Account, written, opened, added, account, accountOf, TieClaim, Labels, LabelsClaim, Agree, TwoLinesClaim, ReplayClaim}
 
 -- ---- line A
 -- The words of events stand in front of the area that they are written to, three for each.
@@ -64,6 +66,23 @@ tie g start marks area o e cs ss K =
     let r : Reply = opening g start marks area in
     ap (λ (a : Account). account a cs ss) (ap opened e ∙ ap (accountWith (begun r)) (tells r area (demand1 .opening-confined g start marks area .told)))
     ∙ tied (begun r) cs ss (subst (λ (x : Seen). Kept (x .config) cs ss) e K)
+
+-- ---- demand 2
+-- A line that has ended has the events of the one depth-first search.
+labelled : (g : Image) (start : ℕ) (marks area : List ℕ) → openNumber g start marks area ≡ 0 → (cs : List Call) → Labels g start marks (accountOf (lineB folded g start marks area cs))
+labelled g start marks area h cs =
+    let l : Line = lineB folded g start marks area cs in
+    let P = profile g start marks area h in
+    let D = depth-first (graphOf g) [] start (profile-ready g (P .sound) start (P .start-vertex)) in
+    let L = demand2 .labelling g start marks area h cs in
+    record {
+      events = λ f. ap words (sym (reverse-reverse (l .events)) ∙ ap reverse (D .one (reverse (l .events)) .0 (L .events f)));
+      labels = λ f. L .labels f ∙ ap (λ (i : History). marksLeft (g .n + g .m) i marks) (D .one (reverse (l .events)) .0 (L .events f));
+      no-labels = L .no-labels;
+    }
+
+pub labels-as-defined : LabelsClaim
+labels-as-defined g start marks area h o e cs ss K = rw (tie g start marks area o e cs ss K) (labelled g start marks area h cs)
 
 -- ---- the two lines
 -- The words of the first events are the first words.

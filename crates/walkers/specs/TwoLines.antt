@@ -1,15 +1,17 @@
--- Demand 3 of the calls themselves (document 01, "Agreement of the two lines"). Line A is one call of `dfs_recursive`; line B is an `open`
+-- Demands 2 and 3 of the calls themselves (document 01, "Agreement of the two lines"). Line A is one call of `dfs_recursive`; line B is an `open`
 -- and a list of `run`, `step` and `roll_back`, each on the state, links and marks that the one before it left. What a caller sees of each
 -- call is what its promise says (`seenOf (serve ..)`); nothing else is known of the code.
 use mathlib.Core.Path.{_≡_}
 use mathlib.Core.Logic.{_↔_, _≢_, _⊎_}
 use mathlib.Core.Bool.{Bool, true, false, _||_}
-use mathlib.Core.List.{List, [], _∷_, _++_, IsPrefix}
+use mathlib.Core.List.{List, [], _∷_, _++_, reverse, IsPrefix}
 use Prim.Native.Nat.{ℕ, _+_, _*_, _≤_, _<_}
 use lib.ListN.{length, take}
 use Rattle.lists.specs.Counts.{sumOf}
+use Rattle.lists.specs.Words.{cleared}
 use Rattle.graphs.specs.Graph.{Reached, met}
 use Rattle.graphs.specs.Events.{words}
+use Rattle.graphs.specs.Results.{marksLeft}
 use Rattle.graphs.specs.Image.{Image, graphOf}
 use Rattle.walks.specs.Promises.{walkNumber, depthWalk}
 use Rattle.folding.specs.Machine.{Config, finished, rolledBack}
@@ -70,6 +72,17 @@ accountOf l = record { config = l .config; told = words (l .events); steps = l .
 abbrev pub TieClaim : Type 0
 TieClaim = (g : Image) (start : ℕ) (marks area : List ℕ) (o : Seen) → o ≡ seenOf (opening g start marks area) → (cs : List Call) (ss : List Seen) → Kept (o .config) cs ss
     → account (opened o) cs ss ≡ accountOf (lineB folded g start marks area cs)
+
+-- ---- demand 2 of line B
+-- Ended, the event words and the marks are those of the depth-first search (`WalkClaim` says whose); rolled back, all marks are 0.
+pub record Labels (g : Image) (start : ℕ) (marks : List ℕ) (b : Account) : Type 0 where
+  pub events : b .config .phase ≡ finished → b .told ≡ words (reverse (depthWalk g start))
+  pub labels : b .config .phase ≡ finished → b .config .marks ≡ marksLeft (g .n + g .m) (depthWalk g start) marks
+  pub no-labels : b .config .phase ≡ rolledBack → b .config .marks ≡ cleared (g .n + g .m) marks
+
+abbrev pub LabelsClaim : Type 0
+LabelsClaim = (g : Image) (start : ℕ) (marks area : List ℕ) → openNumber g start marks area ≡ 0 → (o : Seen) → o ≡ seenOf (opening g start marks area)
+    → (cs : List Call) (ss : List Seen) → Kept (o .config) cs ss → Labels g start marks (account (opened o) cs ss)
 
 -- ---- the two lines
 -- Line B's account beside line A's event words; vs are the elements reached, in any order.
