@@ -1,0 +1,14 @@
+-- `play_all` is safe and ends: the places left fall with each turn.
+use borrow.Author.Needs.{needs}
+use Prim.Native.Nat.{_≤_, _-_}
+use Rattle.folded_cases.proofs.second.play_all.Statement.{statement}
+use Rattle.folded_cases.proofs.second.play_all.Tie as tie
+
+abbrev Inv-loop : tie.InvT-loop
+Inv-loop d₀ top i₀ d i = i ≤ top
+
+abbrev μ-loop : tie.MeasureT-loop
+μ-loop d₀ top i₀ d i = top - i
+
+pub play-all-spec : {M : Type 1} → statement M
+play-all-spec = tie.close (tie.spec Inv-loop μ-loop (search needs) (search needs) (search needs) (search needs) (search needs) (search needs))

@@ -1,0 +1,63 @@
+// Runs the calls of the folded search on cases, and compares every answer and every lent word with a second implementation. One line is
+// printed for each group of cases: how many there are, how many differ, and how many calls were taken, refused with each number of
+// document 01, or stopped for each reason.
+mod areas;
+mod calls;
+mod cases;
+mod chance;
+mod compare;
+mod drawn;
+mod moves;
+mod profiles;
+mod search;
+mod second;
+mod tally;
+mod turns;
+
+use crate::areas::Desk;
+use crate::tally::count_case;
+use crate::tally::print_counts;
+
+fn case(d: &mut Desk, group: u16, i: u16) {
+    match group {
+        0 => cases::faulty_case(d, i),
+        1 => cases::damaged_case(d, i),
+        2 => cases::halted_case(d, i, 2),
+        3 => cases::halted_case(d, i, 34),
+        4 => cases::listed_case(d, i),
+        5 => cases::hostile_case(d, i),
+        6 => cases::long_case(d, i),
+        _ => cases::script_case(d, i),
+    }
+}
+
+fn run(d: &mut Desk, group: u16, top: u16) {
+    let mut i: u16 = 0;
+    while i < top {
+        case(d, group, i);
+        count_case(d);
+        i += 1;
+    }
+}
+
+// Runs the first `top` cases of a group and prints what they gave.
+fn print(name: &[u8], group: u16, top: u16) {
+    let mut d = [0u16; 167710];
+    run(&mut d, group, top);
+    print_counts(name, &d);
+}
+
+fn main() {
+    io::write_all(
+        1,
+        b"group,cases,differing,taken,1,2,3,4,5,6,7,8,9,ended,spent,stuck\n",
+    );
+    print(b"openings: every set of faults", 0, 512);
+    print(b"openings: damaged links", 1, 4000);
+    print(b"halted after every step and resumed", 2, 17280);
+    print(b"halted after every step and rolled back", 3, 8640);
+    print(b"lists of calls", 4, 10000);
+    print(b"states and links by chance", 5, 20000);
+    print(b"limits", 6, 48);
+    print(b"scripts", 7, 10000);
+}

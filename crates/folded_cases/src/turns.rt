@@ -1,0 +1,110 @@
+// One loop for all that is done on the desk place by place.
+use crate::areas::AFTER;
+use crate::areas::Desk;
+use crate::areas::EVENTS;
+use crate::areas::FOUND;
+use crate::areas::LENGTHS;
+use crate::areas::LIST;
+use crate::areas::LOADED;
+use crate::areas::LOADED_TAIL;
+use crate::areas::MARKS;
+use crate::areas::TAIL;
+use crate::areas::UNTOUCHED;
+use crate::areas::get_at;
+use crate::areas::put_at;
+use crate::areas::say;
+use crate::areas::word;
+use crate::drawn::draw_call;
+use crate::drawn::draw_field;
+use crate::drawn::draw_words;
+use crate::drawn::fault;
+use crate::drawn::write_back;
+use crate::drawn::write_call;
+use crate::moves::undo;
+use crate::profiles::make_edge;
+use crate::search::turn_search;
+use crate::second::RUN;
+use crate::second::least_length;
+use crate::tally::note;
+
+// Kinds of turns. An area's number fills it with untouched words, and this more with zeros.
+pub(crate) const ZEROS: usize = 22;
+
+pub(crate) const EDGES: usize = 44;
+
+pub(crate) const LOADS: usize = 45;
+
+pub(crate) const LENT: usize = 46;
+
+pub(crate) const SEARCHED: usize = 47;
+
+pub(crate) const UNDONE: usize = 48;
+
+pub(crate) const FAULTS: usize = 49;
+
+pub(crate) const DRAWN: usize = 50;
+
+pub(crate) const FIELDS: usize = 51;
+
+pub(crate) const SCRIPTS: usize = 52;
+
+pub(crate) const STEPPED: usize = 53;
+
+pub(crate) const JAMS: usize = 54;
+
+pub(crate) const BACK: usize = 55;
+
+pub(crate) const LISTED: usize = 56;
+
+// Notes how the links are loaded.
+fn hold(d: &mut Desk, i: usize) {
+    put_at(d, LOADED, i, get_at(d, AFTER, i));
+    put_at(d, LOADED_TAIL, i, get_at(d, TAIL, i));
+}
+
+// Lends an area longer than stated by three words.
+fn lend(d: &mut Desk, i: usize) {
+    let k = least_length(d, i) as u64;
+    say(d, LENGTHS + i % 4, word(k % 65536 + 3));
+}
+
+// Notes where a word of two areas differs.
+fn same(d: &mut Desk, a: usize, b: usize, i: usize) {
+    note(d, get_at(d, a, i) != get_at(d, b, i));
+}
+
+// Notes where the links are not as loaded, or the marks not those of the search by a stack.
+fn back(d: &mut Desk, i: usize) {
+    same(d, AFTER, LOADED, i);
+    same(d, TAIL, LOADED_TAIL, i);
+    same(d, MARKS, FOUND, i);
+}
+
+fn turn(d: &mut Desk, kind: usize, i: usize) {
+    match kind {
+        0..=21 => put_at(d, kind, i, UNTOUCHED),
+        22..=43 => put_at(d, kind, i, 0),
+        EDGES => make_edge(d, i),
+        LOADS => hold(d, i),
+        LENT => lend(d, i),
+        SEARCHED => turn_search(d),
+        UNDONE => undo(d),
+        FAULTS => fault(d, i),
+        DRAWN => draw_words(d, i),
+        FIELDS => draw_field(d, i),
+        SCRIPTS => draw_call(d, i),
+        STEPPED => write_back(d, i),
+        JAMS => write_call(d, i, RUN, 1000),
+        BACK => back(d, i),
+        _ => same(d, EVENTS, LIST, i),
+    }
+}
+
+// The turns of a kind at the first `top` places.
+pub(crate) fn each(d: &mut Desk, kind: usize, top: usize) {
+    let mut i: usize = 0;
+    while i < top {
+        turn(d, kind, i);
+        i += 1;
+    }
+}
