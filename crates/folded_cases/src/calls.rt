@@ -76,7 +76,7 @@ fn replay(
     let words = said(d, SCRIPTED) as usize % 64;
     let part = &script[0..words];
     let start = Vertex(said(d, START));
-    scripts::replay(
+    walkers::replay(
         said(d, N),
         said(d, M),
         start,
@@ -101,15 +101,15 @@ fn call(
         return replay(d, after, tail, marks, events);
     }
     if k == OPEN {
-        return states::open(s.n, s.m, s.start, after, tail, marks, events);
+        return walkers::open(s.n, s.m, s.start, after, tail, marks, events);
     }
     if k == STEP {
-        return folded::step(s, after, tail, marks, events);
+        return walkers::step(s, after, tail, marks, events);
     }
     if k == RUN {
-        return folded::run(s, amount(said(d, BUDGET)), after, tail, marks, events);
+        return walkers::run(s, amount(said(d, BUDGET)), after, tail, marks, events);
     }
-    states::roll_back(s)
+    walkers::roll_back(s)
 }
 
 // Makes the call on the desk, with what is lent of these areas.
