@@ -24,7 +24,7 @@ module _ (w : Config) (areas : List Lent) (own : List Refusal) {k : ℕ} (e : k 
   number-own z = first-rest (common w areas) own (omega arith) (sym e ∙ z)
 
 -- ---- the reply
-unless-refused : (k : ℕ) (w : Config) (area : List ℕ) (r : Reply) → k ≢ 0 → unless k w area r ≡ refusing k w area
+pub unless-refused : (k : ℕ) (w : Config) (area : List ℕ) (r : Reply) → k ≢ 0 → unless k w area r ≡ refusing k w area
 unless-refused zero w area r ne = absurd (ne refl)
 unless-refused (suc k) w area r ne = refl
 

@@ -1,9 +1,9 @@
 -- An opening, by its number.
 -- What the start's labelling leaves is one mark and one event, where there is room for them.
-use mathlib.Core.Path.{_≡_, refl, sym, ap, _∙_}
+use mathlib.Core.Path.{_≡_, sym, ap, _∙_}
 use mathlib.Core.Logic.{_≢_}
 use mathlib.Core.List.{List, [], _∷_}
-use Prim.Native.Nat.{ℕ, zero, suc, _+_, _≤_}
+use Prim.Native.Nat.{ℕ, _+_, _≤_}
 use native.Mathlib.Omega.{arith}
 use lib.ListN.{length}
 use Rattle.lists.specs.Words.{overlay}
@@ -17,6 +17,7 @@ use Rattle.graphs.proofs.Sound.{profile-sound}
 use Rattle.folding.specs.Calls.{refusing, unless, unopened, openNumber, openedAt, openReply, opening}
 use Rattle.walks.specs.Writing.{Roomy}
 use Rattle.walks.proofs.Writing.{Starts, beginning}
+use Rattle.states.proofs.Numbers.{unless-refused}
 
 module _ (g : Image) (start : ℕ) (marks area : List ℕ) {k : ℕ} (e : k ≡ searchNumber g start (lent (g .n + g .m) marks ∷ lent 3 area ∷ [])) where
   number-is : openNumber g start marks area ≡ k
@@ -25,11 +26,7 @@ module _ (g : Image) (start : ℕ) (marks area : List ℕ) {k : ℕ} (e : k ≡ 
 
   pub open-refused : k ≢ 0 → opening g start marks area ≡ refusing k (unopened g start marks) area
   unfolding opening
-  open-refused ne = ap (λ (j : ℕ). unless j (unopened g start marks) area (openReply g start marks area)) number-is ∙ go k ne
-    where
-      go : (j : ℕ) → j ≢ 0 → unless j (unopened g start marks) area (openReply g start marks area) ≡ refusing j (unopened g start marks) area
-      go zero n = absurd (n refl)
-      go (suc j) n = refl
+  open-refused ne = ap (λ (j : ℕ). unless j (unopened g start marks) area (openReply g start marks area)) number-is ∙ unless-refused k (unopened g start marks) area (openReply g start marks area) ne
 
   pub open-taken : k ≡ 0 → opening g start marks area ≡ openReply g start marks area
   unfolding opening
