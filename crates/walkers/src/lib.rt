@@ -16,4 +16,5 @@ pub use states::Reply;
 pub use states::State;
 pub use states::open;
 pub use states::roll_back;
+pub use states::state_number;
 pub use walks::Walked;

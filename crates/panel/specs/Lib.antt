@@ -1,0 +1,3 @@
+-- What the panel's calls promise, and what is claimed of them together.
+pub mod Panel
+pub mod Claims
