@@ -1,14 +1,14 @@
--- Under every list of calls, all steps are at most 14,000 and all events at most 10,000.
+-- Under every list of calls, all steps are at most 14,000 and all events at most 10,000; the next label number counts the labels.
 -- Until a roll-back order is taken the steps are those of the search, and after it those since the order.
 use mathlib.Core.Path.{_≡_, refl, sym, ap, _∙_, subst}
 use mathlib.Core.Bool.{Bool, true, false, _||_}
-use mathlib.Core.List.{List, [], _∷_}
+use mathlib.Core.List.{List, [], _∷_, reverse, reverse-reverse}
 use Prim.Native.Nat.{ℕ, zero, suc, _+_, _*_, _≤_}
 use native.Mathlib.Omega.{arith}
 use lib.ListN.{length, length-append}
 use Rattle.lists.proofs.Tests.{clash}
 use Rattle.graphs.specs.Nodes.{Vertex}
-use Rattle.graphs.specs.Events.{labelled}
+use Rattle.graphs.specs.Events.{History, labelled}
 use Rattle.graphs.specs.Image.{Image, graphOf}
 use Rattle.graphs.specs.Refusals.{lent}
 use Rattle.graphs.proofs.Sound.{Sound}
@@ -95,3 +95,18 @@ events-few g start marks area h cs =
     let A : Agrees g start (labelled (allOf g start)) (lineB folded g start marks area cs) = agreement g start marks area h (labelled (allOf g start)) E cs in
     let p = A .first in
     omega (arith, length-append (lineB folded g start marks area cs .events) (p .0), ap length (p .1), words-length (lineA g start), room g start (lent (g .n + g .m) marks ∷ lent 3 area ∷ []) h .0, P .sound .few-vertices, P .sound .few-edges)
+
+-- The next label number, in every phase.
+next-held : {g : Image} {start : ℕ} {marks : List ℕ} (t : Trace) → Holds g start marks t → t .config .next ≡ suc (length (labelled (t .history)))
+next-held t (at-walking v done rest s stale C fut calm cnt) = ap (λ (w : Config). w .next) (C .is-config)
+next-held t (at-restoring v done rest s stale C fut calm cnt) = ap (λ (w : Config). w .next) (C .is-config)
+next-held t (at-rolling v done rest s stale C sh ro cnt) = ap (λ (w : Config). w .next) (C .is-config)
+next-held t (at-end K e calm cnt) = ap (λ (w : Config). w .next) (K .is-config)
+next-held t (at-undone K x ro cnt) = ap (λ (w : Config). w .next) (K .is-config)
+
+-- The next label number of a line is one more than the elements that it has labelled.
+pub next-counts : (g : Image) (start : ℕ) (marks area : List ℕ) → openNumber g start marks area ≡ 0 → (cs : List Call) → lineB folded g start marks area cs .config .next ≡ suc (length (labelled (reverse (lineB folded g start marks area cs .events))))
+next-counts g start marks area h cs =
+    let l : Line = lineB folded g start marks area cs in
+    let H = held g start marks area h cs in
+    next-held (traceOf l (H .history)) (H .holds) ∙ ap (λ (i : History). suc (length (labelled i))) (sym (ap reverse (H .events) ∙ reverse-reverse (H .history)))

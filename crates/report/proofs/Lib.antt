@@ -1,0 +1,6 @@
+pub mod Rows
+pub mod Whole
+pub mod Judged
+pub mod Graphs
+pub mod Fits
+pub mod Example

@@ -1,0 +1,50 @@
+-- The example that document 01 prints, byte for byte: a profile's text, and what `walk` prints for it.
+use mathlib.Core.Path.{_≡_}
+use mathlib.Core.List.{List, [], _∷_}
+use mathlib.Core.Option.{some}
+use Prim.Native.Nat.{ℕ}
+use Rattle.texts.specs.Text.{Line, Listing, listingOf}
+use Rattle.report.specs.Printed.{walkPrinted}
+use Rattle.report.specs.Report.{graphFrom}
+
+abbrev pub exampleText : List ℕ
+exampleText =
+    101 ∷ 108 ∷ 101 ∷ 109 ∷ 101 ∷ 110 ∷ 116 ∷ 115 ∷ 44 ∷ 114 ∷ 101 ∷ 102 ∷ 101 ∷ 114 ∷ 101 ∷ 110 ∷ 99 ∷ 101 ∷ 115 ∷ 44 ∷ 115 ∷ 116 ∷ 97 ∷ 114 ∷ 116 ∷ 10
+    ∷ 51 ∷ 44 ∷ 52 ∷ 44 ∷ 49 ∷ 10
+    ∷ 102 ∷ 114 ∷ 111 ∷ 109 ∷ 44 ∷ 116 ∷ 111 ∷ 10
+    ∷ 49 ∷ 44 ∷ 50 ∷ 10
+    ∷ 49 ∷ 44 ∷ 51 ∷ 10
+    ∷ 50 ∷ 44 ∷ 51 ∷ 10
+    ∷ 51 ∷ 44 ∷ 49 ∷ 10 ∷ []
+
+abbrev pub examplePrinted : List ℕ
+examplePrinted =
+    101 ∷ 118 ∷ 101 ∷ 110 ∷ 116 ∷ 44 ∷ 114 ∷ 101 ∷ 102 ∷ 101 ∷ 114 ∷ 101 ∷ 110 ∷ 99 ∷ 101 ∷ 44 ∷ 101 ∷ 108 ∷ 101 ∷ 109 ∷ 101 ∷ 110 ∷ 116 ∷ 10
+    ∷ 49 ∷ 44 ∷ 48 ∷ 44 ∷ 49 ∷ 10
+    ∷ 50 ∷ 44 ∷ 52 ∷ 44 ∷ 49 ∷ 10
+    ∷ 49 ∷ 44 ∷ 48 ∷ 44 ∷ 50 ∷ 10
+    ∷ 50 ∷ 44 ∷ 54 ∷ 44 ∷ 50 ∷ 10
+    ∷ 49 ∷ 44 ∷ 48 ∷ 44 ∷ 51 ∷ 10
+    ∷ 51 ∷ 44 ∷ 55 ∷ 44 ∷ 51 ∷ 10
+    ∷ 52 ∷ 44 ∷ 55 ∷ 44 ∷ 51 ∷ 10
+    ∷ 54 ∷ 44 ∷ 48 ∷ 44 ∷ 51 ∷ 10
+    ∷ 53 ∷ 44 ∷ 54 ∷ 44 ∷ 50 ∷ 10
+    ∷ 54 ∷ 44 ∷ 48 ∷ 44 ∷ 50 ∷ 10
+    ∷ 53 ∷ 44 ∷ 52 ∷ 44 ∷ 49 ∷ 10
+    ∷ 51 ∷ 44 ∷ 53 ∷ 44 ∷ 49 ∷ 10
+    ∷ 52 ∷ 44 ∷ 53 ∷ 44 ∷ 49 ∷ 10
+    ∷ 54 ∷ 44 ∷ 48 ∷ 44 ∷ 49 ∷ 10
+    ∷ 101 ∷ 108 ∷ 101 ∷ 109 ∷ 101 ∷ 110 ∷ 116 ∷ 115 ∷ 44 ∷ 109 ∷ 111 ∷ 118 ∷ 101 ∷ 115 ∷ 44 ∷ 99 ∷ 105 ∷ 114 ∷ 99 ∷ 117 ∷ 108 ∷ 97 ∷ 114 ∷ 10
+    ∷ 51 ∷ 44 ∷ 49 ∷ 49 ∷ 44 ∷ 49 ∷ 10 ∷ []
+
+abbrev pub line : ℕ → ℕ → Line
+line from to = record { from = from; to = to }
+
+-- What the text says: 3 elements, 4 references, start 1.
+abbrev pub example : Listing
+example = record { n = 3; m = 4; start = 1; lines = line 1 2 ∷ line 1 3 ∷ line 2 3 ∷ line 3 1 ∷ [] }
+
+-- The text says it, and this is printed of it.
+pub record ExampleClaim : Type 0 where
+  pub says : listingOf exampleText ≡ some example
+  pub prints : walkPrinted (graphFrom example) (example .start) ≡ examplePrinted

@@ -1,0 +1,6 @@
+-- What `walk` prints.
+pub mod Printed
+pub mod Report
+pub mod Example
+-- What functions inside the crate ask of each other.
+pub mod Inside
