@@ -26,8 +26,8 @@ use Rattle.graphs.proofs.Refusals.{long}
 use Rattle.graphs.proofs.Results.{named-length}
 use Rattle.graphs.proofs.Sound.{graph-closed}
 use Rattle.graphs.proofs.Queues.{Waiting, Scanning, queue-begin, queue-scan, queue-end}
-use Rattle.images.specs.Arrays.{unlessRefused}
-use Rattle.images.proofs.Arrays.{read-at, refused}
+use Rattle.arrays.specs.Arrays.{unlessRefused}
+use Rattle.arrays.proofs.Arrays.{read-at, refused}
 use Rattle.walks.specs.Promises.{walkNumber, breadthWalk, tallied}
 use Rattle.walks.specs.Writing.{noEvents, total, Held}
 use Rattle.breadth.specs.Queues.{QueueAt, SomeQueueAt, QueueScanned, CanSearch, Ended}

@@ -22,7 +22,7 @@ use Rattle.graphs.proofs.Breadth.{Kept}
 use Rattle.graphs.proofs.Room.{profile-ready}
 use Rattle.graphs.proofs.Sound.{Sound, head0, Linked, graph-closed}
 use Rattle.graphs.proofs.Queues.{Waiting, Scanning, queue-first, queue-begin, queue-pass, queue-join, queue-room, queue-room-edge, queue-end}
-use Rattle.images.proofs.Arrays.{read-at}
+use Rattle.arrays.proofs.Arrays.{read-at}
 use Rattle.walks.proofs.Reading.{target, target-is}
 use Rattle.walks.specs.Promises.{breadthWalk}
 use Rattle.walks.specs.Writing.{total, Held, Roomy}

@@ -18,8 +18,8 @@ use Rattle.graphs.proofs.Labels.{Labels}
 use Rattle.graphs.proofs.Sound.{head0, Linked, Sound, graph-closed}
 use Rattle.graphs.proofs.Queues.{Waiting, Scanning, queue-begin, queue-scan, queue-end}
 use Rattle.images.specs.Checking.{image}
-use Rattle.images.specs.Arrays.{unlessRefused}
-use Rattle.images.proofs.Arrays.{read-at, refused}
+use Rattle.arrays.specs.Arrays.{unlessRefused}
+use Rattle.arrays.proofs.Arrays.{read-at, refused}
 use Rattle.breadth.specs.declared.folded.Scanned.{Scanned}
 use Rattle.walks.specs.Promises.{walkNumber, breadthWalk, tallied}
 use Rattle.walks.specs.Writing.{noEvents, total, Held}

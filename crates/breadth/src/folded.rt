@@ -12,7 +12,7 @@ ghost use mathlib.Core.List.{List, []};
 ghost use Prim.Native.Nat.{ℕ, _+_};
 ghost use Rattle.graphs.specs.Results.{marksLeft, eventsLeft};
 ghost use Rattle.images.specs.Checking.{image};
-ghost use Rattle.images.specs.Arrays.{unlessRefused};
+ghost use Rattle.arrays.specs.Arrays.{unlessRefused};
 ghost use Rattle.walks.specs.Promises.{walkNumber, breadthWalk, tallied};
 ghost use Rattle.breadth.specs.Threads.{Ends, lastFrom, FoldedAt, SomeFoldedAt, FoldedScanned, CanSearch, Ended};
 

@@ -13,7 +13,7 @@ ghost use Prim.Native.Nat.{ℕ, _+_};
 ghost use Rattle.graphs.specs.Refusals.{lent};
 ghost use Rattle.graphs.specs.Results.{marksLeft, eventsLeft, queueLeft};
 ghost use Rattle.images.specs.Checking.{image};
-ghost use Rattle.images.specs.Arrays.{unlessRefused};
+ghost use Rattle.arrays.specs.Arrays.{unlessRefused};
 ghost use Rattle.walks.specs.Promises.{walkNumber, breadthWalk, tallied};
 ghost use Rattle.breadth.specs.Queues.{QueueAt, SomeQueueAt, QueueScanned, CanSearch, Ended};
 

@@ -5,6 +5,10 @@ pub(crate) fn check_image(n: u16, m: u16, after: &[u16], tail: &[u16]) -> u16 {
     images::check_image(n, m, after, tail)
 }
 
+pub(crate) fn tail_out(n: u16, m: u16, tail: &[u16]) -> bool {
+    images::tail_out(n, m, tail)
+}
+
 pub(crate) fn to_array(
     n: u16,
     m: u16,
@@ -14,15 +18,15 @@ pub(crate) fn to_array(
     tails: &mut [u16],
     numbers: &mut [u16],
 ) -> u16 {
-    images::to_array(n, m, after, tail, firsts, tails, numbers)
+    arrays::to_array(n, m, after, tail, firsts, tails, numbers)
 }
 
 pub(crate) fn edges_out_number(n: u16, m: u16, firsts: &[u16], tails: &[u16], u: u16) -> u16 {
-    images::edges_out_number(n, m, firsts, tails, images::Vertex(u))
+    arrays::edges_out_number(n, m, firsts, tails, images::Vertex(u))
 }
 
 pub(crate) fn edges_out<'a>(n: u16, m: u16, firsts: &[u16], tails: &'a [u16], u: u16) -> &'a [u16] {
-    images::edges_out(n, m, firsts, tails, images::Vertex(u))
+    arrays::edges_out(n, m, firsts, tails, images::Vertex(u))
 }
 
 pub(crate) fn is_vertex(n: u16, x: u16) -> bool {

@@ -10,6 +10,7 @@ use crate::areas::word;
 use crate::chance::draw;
 use crate::chance::draw_from_one;
 use crate::image::checked;
+use crate::image::told_tails;
 use crate::listing::AFTER_WORDS;
 use crate::listing::COPIED;
 use crate::listing::draw_pairs;
@@ -170,4 +171,15 @@ fn check_drawn(d: &Desk, seed: u64) -> Outcome {
 pub(crate) fn check_case(d: &mut Desk, seed: u64) -> Outcome {
     draw_damaged(d, seed, draw_n(seed), draw_m(seed));
     check_drawn(d, seed)
+}
+
+// The tails of a drawn and damaged image, at sizes and a length by chance.
+pub(crate) fn tail_case(d: &mut Desk, seed: u64) -> Outcome {
+    draw_damaged(d, seed, draw_n(seed), draw_m(seed));
+    let m = other_m(seed);
+    told_tails(
+        other_n(seed),
+        m,
+        part(d, TAIL, draw_length(seed, 11, m as usize)),
+    )
 }

@@ -2,6 +2,7 @@
 use crate::areas::of_node;
 use crate::areas::within;
 use crate::calls::check_image;
+use crate::calls::tail_out;
 use crate::listing::edge;
 use crate::tally::Outcome;
 use crate::tally::also;
@@ -48,6 +49,11 @@ fn links_only(after: &[u16], n: u16, m: u16) -> bool {
     nulls % 131072 + edges % 131072 == all as usize
 }
 
+// Whether each of m tails is a vertex.
+fn vertices_only(n: u16, m: u16, tail: &[u16]) -> bool {
+    within(tail, m as usize, 1, n as u32) == m as usize
+}
+
 // 1 or 2 where a size is out of range, or 0.
 pub(crate) fn size_number(n: u16, m: u16) -> u16 {
     if n == 0 {
@@ -67,7 +73,7 @@ fn words_number(n: u16, m: u16, after: &[u16], tail: &[u16]) -> u16 {
     if !links_only(after, n, m) {
         return 5;
     }
-    if within(tail, m as usize, 1, n as u32) != m as usize {
+    if !vertices_only(n, m, tail) {
         return 6;
     }
     if !on_lists(after, n, m) {
@@ -95,4 +101,10 @@ pub(crate) fn image_number(n: u16, m: u16, after: &[u16], tail: &[u16]) -> u16 {
 pub(crate) fn checked(n: u16, m: u16, after: &[u16], tail: &[u16]) -> Outcome {
     let answer = check_image(n, m, after, tail);
     also(answer, answer != image_number(n, m, after, tail))
+}
+
+// The case of tails: 6 is counted where one is told that is no vertex.
+pub(crate) fn told_tails(n: u16, m: u16, tail: &[u16]) -> Outcome {
+    let out = tail_out(n, m, tail);
+    also(if out { 6 } else { 0 }, out == vertices_only(n, m, tail))
 }

@@ -30,8 +30,9 @@ fn image_case(d: &mut Desk, group: u16, i: usize) -> Outcome {
     match group {
         0 => rows::check_case(d, i),
         1 => drawn::check_case(d, i as u64),
-        2 => rows::conversion_case(d, i),
-        3 => conversions::sound_case(d, i as u64),
+        2 => drawn::tail_case(d, i as u64),
+        3 => rows::conversion_case(d, i),
+        4 => conversions::sound_case(d, i as u64),
         _ => conversions::damaged_case(d, i as u64),
     }
 }
@@ -39,8 +40,8 @@ fn image_case(d: &mut Desk, group: u16, i: usize) -> Outcome {
 // Case i of a group on array forms.
 fn array_case(d: &mut Desk, group: u16, i: usize) -> Outcome {
     match group {
-        5 => rows::query_case(d, i),
-        6 => queries::sound_case(d, i as u64),
+        6 => rows::query_case(d, i),
+        7 => queries::sound_case(d, i as u64),
         _ => queries::damaged_case(d, i as u64),
     }
 }
@@ -48,8 +49,8 @@ fn array_case(d: &mut Desk, group: u16, i: usize) -> Outcome {
 // Case i of a group on texts.
 fn text_case(d: &mut Desk, text: &mut Text, group: u16, i: usize) -> Outcome {
     match group {
-        8 => text_rows::text_case(d, text, i),
-        9 => profiles::sound_case(d, text, i as u64),
+        9 => text_rows::text_case(d, text, i),
+        10 => profiles::sound_case(d, text, i as u64),
         _ => profiles::damaged_case(d, text, i as u64),
     }
 }
@@ -57,10 +58,10 @@ fn text_case(d: &mut Desk, text: &mut Text, group: u16, i: usize) -> Outcome {
 // Case i of a group on numbers.
 fn number_case(text: &mut Text, group: u16, i: usize) -> Outcome {
     match group {
-        11 => digits::value_case(text, i),
-        12 => digits::room_case(text, i as u64),
-        13 => digits::digits_case(text, i as u64),
-        14 => nodes::vertex_case(i as u64),
+        12 => digits::value_case(text, i),
+        13 => digits::room_case(text, i as u64),
+        14 => digits::digits_case(text, i as u64),
+        15 => nodes::vertex_case(i as u64),
         _ => nodes::link_case(i as u64),
     }
 }
@@ -68,9 +69,9 @@ fn number_case(text: &mut Text, group: u16, i: usize) -> Outcome {
 // Case i of a group.
 fn case(d: &mut Desk, text: &mut Text, group: u16, i: usize) -> Outcome {
     match group {
-        0..=4 => image_case(d, group, i),
-        5..=7 => array_case(d, group, i),
-        8..=10 => text_case(d, text, group, i),
+        0..=5 => image_case(d, group, i),
+        6..=8 => array_case(d, group, i),
+        9..=11 => text_case(d, text, group, i),
         _ => number_case(text, group, i),
     }
 }
@@ -96,29 +97,30 @@ fn print(name: &[u8], group: u16, top: usize) {
 fn print_images() {
     print(b"check_image: examples and limits", 0, 32);
     print(b"check_image: damaged images", 1, 4000);
-    print(b"to_array: examples and limits", 2, 25);
-    print(b"to_array: sound images", 3, 2000);
-    print(b"to_array: damaged images", 4, 3000);
+    print(b"tail_out: damaged images", 2, 4000);
+    print(b"to_array: examples and limits", 3, 25);
+    print(b"to_array: sound images", 4, 2000);
+    print(b"to_array: damaged images", 5, 3000);
 }
 
 fn print_arrays() {
-    print(b"edges_out: examples and limits", 5, 20);
-    print(b"edges_out: sound array forms", 6, 2000);
-    print(b"edges_out: damaged array forms", 7, 4000);
+    print(b"edges_out: examples and limits", 6, 20);
+    print(b"edges_out: sound array forms", 7, 2000);
+    print(b"edges_out: damaged array forms", 8, 4000);
 }
 
 fn print_texts() {
-    print(b"read_profile: examples and limits", 8, 49);
-    print(b"read_profile: texts in form", 9, 2000);
-    print(b"read_profile: damaged texts", 10, 6000);
+    print(b"read_profile: examples and limits", 9, 49);
+    print(b"read_profile: texts in form", 10, 2000);
+    print(b"read_profile: damaged texts", 11, 6000);
 }
 
 fn print_numbers() {
-    print(b"write_number and read_number: every number", 11, 65536);
-    print(b"write_number: with and without room", 12, 4000);
-    print(b"read_number: in form and not", 13, 4000);
-    print(b"is_vertex", 14, 4000);
-    print(b"is_link", 15, 4000);
+    print(b"write_number and read_number: every number", 12, 65536);
+    print(b"write_number: with and without room", 13, 4000);
+    print(b"read_number: in form and not", 14, 4000);
+    print(b"is_vertex", 15, 4000);
+    print(b"is_link", 16, 4000);
 }
 
 fn main() {

@@ -30,7 +30,7 @@ use Rattle.walks.specs.Promises.{walkNumber}
 use Rattle.walks.specs.Writing.{total}
 use Rattle.depth.specs.Parents.{Entered, ParentAt, SomeParentAt, CanSearch, Ended}
 use Rattle.walks.specs.Moves.{Underway}
-use Rattle.images.proofs.Arrays.{read-at}
+use Rattle.arrays.proofs.Arrays.{read-at}
 use Rattle.walks.proofs.Reading.{target, target-is}
 use Rattle.walks.proofs.Writing.{Emits, Puts, Starts, held-test, all-cleared, begins}
 use Rattle.walks.proofs.Moves as moves

@@ -20,8 +20,8 @@ use Rattle.graphs.proofs.Labels.{Labels, label-ok, labels-few}
 use Rattle.graphs.proofs.Sound.{Sound, head0, Linked, graph-closed}
 use Rattle.graphs.proofs.DepthGrowth.{search-adds, search-labels}
 use Rattle.graphs.proofs.Places.{deep, walk, edges-add, suffix-length, can-search, deep-unroll}
-use Rattle.images.specs.Arrays.{unlessRefused}
-use Rattle.images.proofs.Arrays.{read-at, refused}
+use Rattle.arrays.specs.Arrays.{unlessRefused}
+use Rattle.arrays.proofs.Arrays.{read-at, refused}
 use Rattle.walks.specs.Promises.{walkNumber, depthWalk, tallied}
 use Rattle.walks.specs.Writing.{noEvents, total, Held, Roomy}
 use Rattle.depth.specs.Recursive.{searched, crossed, Searching, CanSearch, Traversing, CanTraverse}

@@ -16,7 +16,7 @@ ghost use Rattle.graphs.specs.Image.{graphOf};
 ghost use Rattle.graphs.specs.Refusals.{lent};
 ghost use Rattle.graphs.specs.Results.{marksLeft, eventsLeft, parentLeft};
 ghost use Rattle.images.specs.Checking.{image};
-ghost use Rattle.images.specs.Arrays.{unlessRefused};
+ghost use Rattle.arrays.specs.Arrays.{unlessRefused};
 ghost use Rattle.walks.specs.Writing.{total};
 ghost use Rattle.walks.specs.Promises.{walkNumber, depthWalk, tallied};
 ghost use Rattle.depth.specs.Parents.{ParentAt, SomeParentAt, CanSearch, Ended};

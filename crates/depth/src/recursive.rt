@@ -13,7 +13,7 @@ ghost use Prim.Native.Nat.{ℕ, _+_};
 ghost use Rattle.graphs.specs.Events.{History};
 ghost use Rattle.graphs.specs.Results.{marksLeft, eventsLeft};
 ghost use Rattle.images.specs.Checking.{image};
-ghost use Rattle.images.specs.Arrays.{unlessRefused};
+ghost use Rattle.arrays.specs.Arrays.{unlessRefused};
 ghost use Rattle.walks.specs.Promises.{walkNumber, depthWalk, tallied};
 ghost use Rattle.walks.specs.Writing.{Held};
 ghost use Rattle.depth.specs.Recursive.{CanSearch, Searching, searched, CanTraverse, Traversing, crossed};

@@ -27,9 +27,9 @@ use Rattle.graphs.proofs.Room.{array-ready}
 use Rattle.graphs.proofs.Places.{Frame, frame, parent, path, Above, of-rest, scene-edge}
 use Rattle.graphs.proofs.Trees.{AllTrees, no-tree, all-trees}
 use Rattle.graphs.proofs.Tails.{tails-length, tails-kept}
-use Rattle.images.specs.Arrays.{arrayIn}
 use Rattle.images.proofs.Checks.{word-here}
-use Rattle.images.proofs.Arrays.{read-at}
+use Rattle.arrays.specs.Arrays.{arrayIn}
+use Rattle.arrays.proofs.Arrays.{read-at}
 use Rattle.walks.specs.declared.place.Place.{Place}
 use Rattle.walks.specs.Writing.{total}
 use Rattle.walks.specs.Moves.{Underway}

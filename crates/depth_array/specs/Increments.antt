@@ -11,7 +11,7 @@ use Rattle.graphs.specs.Results.{lastTree, incrementLeft}
 use Rattle.graphs.proofs.ArraySound.{ArraySound}
 use Rattle.graphs.proofs.Places.{Frame, frame, parent}
 use Rattle.graphs.proofs.Tails.{bentTails}
-use Rattle.images.specs.Arrays.{arrayIn}
+use Rattle.arrays.specs.Arrays.{arrayIn}
 use Rattle.walks.specs.declared.place.Place.{Place}
 use Rattle.walks.specs.Promises.{arrayWalk}
 use Rattle.walks.specs.Writing.{Held}

@@ -8,7 +8,7 @@ use Prim.Native.Nat.{ℕ, zero, suc, _+_, _-_, _≤_, _<_}
 use native.Mathlib.Omega.{arith}
 use native.Mathlib.Numerals.{add-one}
 use lib.Dec.{eqb}
-use lib.ListN.{length, getD, set, length-replicate, getD-replicate}
+use lib.ListN.{length, getD, set, length-replicate, getD-replicate, List·getD-eq-default}
 use borrow.Author.Tests.{eqb-true, eq-eqb, ne-eqb}
 use Rattle.lists.specs.Members.{Mem, here, there, NoDup}
 use Rattle.lists.specs.Counts.{allTo}
@@ -34,6 +34,12 @@ word-here area i = let e : suc i - 1 ≡ i = omega arith in ap (λ (j : ℕ). ge
 pub record Passed (test : ℕ → Bool) (area : List ℕ) (k i : ℕ) : Type 0 where
   pub within : i ≤ k
   pub all : allTo (λ x. test (at 0 area x)) i ≡ true
+
+-- An area with fewer than k words does not pass a test that fails at 0: a missing word reads as 0.
+pub short-out : (test : ℕ → Bool) (area : List ℕ) (k : ℕ) → length area < k → test 0 ≡ false → true ≡ not (allTo (λ x. test (at 0 area x)) k)
+short-out test area k lt z =
+    let missing : at 0 area (suc (length area)) ≡ 0 = word-here area (length area) ∙ List·getD-eq-default area 0 (omega arith) in
+    sym (ap not (all-fails (λ x. test (at 0 area x)) k (suc (length area)) (omega arith) lt (ap test missing ∙ z)))
 
 pub passed-none : {test : ℕ → Bool} {area : List ℕ} {k : ℕ} → Passed test area k 0
 passed-none = record { within = omega arith; all = refl }

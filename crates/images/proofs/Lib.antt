@@ -1,4 +1,2 @@
--- Judging images; array forms: queries, converting.
+-- Judging images.
 pub mod Checks
-pub mod Arrays
-pub mod Grouping

@@ -1,6 +1,2 @@
--- What the calls promise.
-pub mod Arrays
-pub mod Claims
--- What functions inside the crate ask of each other.
+-- The image in two areas; what functions inside the crate ask of each other.
 pub mod Checking
-pub mod Grouping

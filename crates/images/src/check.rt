@@ -5,8 +5,7 @@ use crate::nodes::is_link;
 use crate::nodes::is_vertex;
 ghost use mathlib.Core.Path.{_≡_};
 ghost use mathlib.Core.List.{List, []};
-ghost use Prim.Native.Nat.{ℕ, _≤_};
-ghost use lib.ListN.{length};
+ghost use Prim.Native.Nat.{ℕ};
 ghost use Rattle.graphs.specs.Refusals.{afterOut, tailOut, listOut, imageNumber, firstOf, imageRefusals};
 ghost use Rattle.images.specs.Checking.{image, listFrom, Sized, Chained, flagAll, Follows};
 
@@ -27,12 +26,14 @@ fn after_out(n: u16, m: u16, after: &[u16]) -> bool
     false
 }
 
-// Whether a tail is not a vertex (6).
-pub(crate) fn tail_out(n: u16, m: u16, tail: &[u16]) -> bool
-    requires { ⌜ m ≤ length (now tail) ⌝ }
+// Whether a tail is not a vertex (6). A tail that the area has no word for is none.
+pub fn tail_out(n: u16, m: u16, tail: &[u16]) -> bool
     ensures { λ r. ⌜ r ≡ tailOut n m (now (tail .entry)) ⌝ }
 {
     let top = m as usize;
+    if tail.len() < top {
+        return true;
+    }
     let mut i: usize = 0;
     while i < top {
         let v = Vertex(tail[i]);
@@ -102,7 +103,7 @@ fn list_out(n: u16, m: u16, after: &[u16]) -> bool
 
 // The number of the first of 5, 6 and 7 that is true of the words of an image, or 0.
 fn words_number(n: u16, m: u16, after: &[u16], tail: &[u16]) -> u16
-    requires { ⌜ Sized n m (now after) × (m ≤ length (now tail)) ⌝ }
+    requires { ⌜ Sized n m (now after) ⌝ }
     ensures { λ r. ⌜ r ≡ firstOf (imageRefusals (image n m (now (after .entry)) (now (tail .entry)))) ⌝ }
 {
     if after_out(n, m, after) {

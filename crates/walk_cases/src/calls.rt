@@ -79,7 +79,7 @@ pub(crate) fn check_image(n: u16, m: u16, after: &[u16], tail: &[u16]) -> u16 {
 }
 
 pub(crate) fn edges_out_number(n: u16, m: u16, firsts: &[u16], tails: &[u16], u: u16) -> u16 {
-    images::edges_out_number(n, m, firsts, tails, images::Vertex(u))
+    arrays::edges_out_number(n, m, firsts, tails, images::Vertex(u))
 }
 
 pub(crate) fn to_array(
@@ -91,5 +91,5 @@ pub(crate) fn to_array(
     tails: &mut [u16],
     numbers: &mut [u16],
 ) -> u16 {
-    images::to_array(n, m, after, tail, firsts, tails, numbers)
+    arrays::to_array(n, m, after, tail, firsts, tails, numbers)
 }

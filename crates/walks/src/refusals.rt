@@ -6,7 +6,7 @@ ghost use Prim.Native.Nat.{_*_, _≤_};
 ghost use lib.Dec.{leb};
 ghost use Rattle.graphs.specs.Refusals.{Lent, short, searchNumber};
 ghost use Rattle.images.specs.Checking.{image};
-ghost use Rattle.images.specs.Arrays.{arrayIn};
+ghost use Rattle.arrays.specs.Arrays.{arrayIn};
 ghost use Rattle.walks.specs.Promises.{walkNumber, arrayWalkNumber};
 
 // The number of a search of a linked image; `long` where every area that it is lent besides the image is as long as stated.
@@ -114,5 +114,5 @@ pub fn array_walk_number(
     if events.len() < 6 * nodes {
         return 3;
     }
-    images::edges_out_number(n, m, firsts, tails, start)
+    arrays::edges_out_number(n, m, firsts, tails, start)
 }

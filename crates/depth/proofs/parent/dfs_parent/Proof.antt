@@ -6,7 +6,7 @@ use mathlib.Core.List.{[], _∷_}
 use borrow.Author.Needs.{needs}
 use Rattle.graphs.specs.Refusals.{lent}
 use Rattle.images.specs.Checking.{image}
-use Rattle.images.proofs.Arrays.{refused}
+use Rattle.arrays.proofs.Arrays.{refused}
 use Rattle.walks.proofs.Writing.{zeros-tallied}
 use Rattle.depth.proofs.Parents.{can-search}
 use Rattle.depth.proofs.parent.dfs_parent.Statement.{statement}

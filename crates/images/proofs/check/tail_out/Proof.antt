@@ -1,12 +1,13 @@
 -- `images::check::tail_out` meets its contract: what it returns is condition 6.
--- The loop keeps that the tails passed are vertices.
+-- Where the area is too short, a missing word is 0 and no vertex. The loop keeps that the tails passed are vertices.
+use mathlib.Core.Path.{refl}
 use Prim.Native.Nat.{_-_}
 use native.Mathlib.Omega.{arith}
 use borrow.Author.Needs.{needs}
 use borrow.Author.Tests.{not-true, not-false}
 use Rattle.graphs.specs.Nodes.{isVertex}
 use Rattle.graphs.specs.Refusals.{tailOut}
-use Rattle.images.proofs.Checks.{Passed, passed-none, passed-out, passed-more, passed-end}
+use Rattle.images.proofs.Checks.{Passed, short-out, passed-none, passed-out, passed-more, passed-end}
 use Rattle.images.proofs.check.tail_out.Statement.{statement}
 use Rattle.images.proofs.check.tail_out.Tie as tie
 
@@ -16,21 +17,25 @@ Inv-loop n m tail top i₀ i = Passed (isVertex n) tail m i
 abbrev μ-loop : tie.MeasureT-loop
 μ-loop n m tail top i₀ i = m - i
 
+returns : tie.Need-returns Inv-loop μ-loop
+unfolding tailOut
+returns c = let z = c .before .before .args in short-out (isVertex (z .n)) (z .tail .now) (z .m) (c .if1 .taken) refl
+
 loop-holds : tie.Need-loop-holds Inv-loop μ-loop
 loop-holds c = passed-none
 
-mul-t8 : tie.Need-mul-t8 Inv-loop μ-loop
-mul-t8 c = omega arith
+mul-t10 : tie.Need-mul-t10 Inv-loop μ-loop
+mul-t10 c = omega arith
 
-shared-slice-read-t10 : tie.Need-shared-slice-read-t10 Inv-loop μ-loop
-shared-slice-read-t10 c = omega arith
+shared-slice-read-t12 : tie.Need-shared-slice-read-t12 Inv-loop μ-loop
+shared-slice-read-t12 c = omega arith
 
 is-vertex-requires : tie.Need-is-vertex-requires Inv-loop μ-loop
 is-vertex-requires c κs = search needs
 
-returns : tie.Need-returns Inv-loop μ-loop
+returns-2 : tie.Need-returns-2 Inv-loop μ-loop
 unfolding tailOut
-returns c = passed-out (c .before .before .before .before .loop .inv) (c .before .before .before .loop-test .taken) (c .before .is-vertex .ensures) (not-true _ (c .if1 .taken))
+returns-2 c = passed-out (c .before .before .before .before .loop .inv) (c .before .before .before .loop-test .taken) (c .before .is-vertex .ensures) (not-true _ (c .if2 .taken))
 
 add-i : tie.Need-add-i Inv-loop μ-loop
 add-i c = omega arith
@@ -39,11 +44,11 @@ loop-less : tie.Need-loop-less Inv-loop μ-loop
 loop-less c = omega arith
 
 loop-again : tie.Need-loop-again Inv-loop μ-loop
-loop-again c = passed-more (c .before .before .before .before .loop .inv) (c .before .before .before .loop-test .taken) (c .before .is-vertex .ensures) (not-false _ (c .if1 .left))
+loop-again c = passed-more (c .before .before .before .before .loop .inv) (c .before .before .before .loop-test .taken) (c .before .is-vertex .ensures) (not-false _ (c .if2 .left))
 
-returns-2 : tie.Need-returns-2 Inv-loop μ-loop
+returns-3 : tie.Need-returns-3 Inv-loop μ-loop
 unfolding tailOut
-returns-2 c = passed-end (c .before .loop .inv) (c .loop-test .left)
+returns-3 c = passed-end (c .before .loop .inv) (c .loop-test .left)
 
 pub tail-out-spec : {M : Type 1} → statement M
 tail-out-spec =
@@ -51,12 +56,13 @@ tail-out-spec =
     (tie.spec
     Inv-loop
     μ-loop
-    loop-holds
-    mul-t8
-    shared-slice-read-t10
-    is-vertex-requires
     returns
+    loop-holds
+    mul-t10
+    shared-slice-read-t12
+    is-vertex-requires
+    returns-2
     add-i
     loop-less
     loop-again
-    returns-2)
+    returns-3)

@@ -21,7 +21,7 @@ returns-2 c =
     rw (after, sym (c .before .tail-out .ensures) ∙ c .if2 .taken)
 
 list-out-requires : tie.Need-list-out-requires
-list-out-requires c κs = record { sized = c .before .before .before .before .before .before .pre .0; links = λ tail. sym (c .before .before .before .after-out .ensures tail) ∙ c .before .before .if1 .left }
+list-out-requires c κs = record { sized = c .before .before .before .before .before .before .pre; links = λ tail. sym (c .before .before .before .after-out .ensures tail) ∙ c .before .before .if1 .left }
 
 returns-3 : tie.Need-returns-3
 returns-3 c =

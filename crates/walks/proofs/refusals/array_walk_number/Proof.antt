@@ -6,7 +6,7 @@ use borrow.Author.Tests.{eq-eqb, ne-eqb, lt-ltb, le-ltb}
 use borrow.Author.Needs.{needs}
 use Rattle.lists.proofs.Tests.{or-true}
 use Rattle.graphs.specs.Refusals.{arrayNumber}
-use Rattle.images.specs.Arrays.{arrayIn}
+use Rattle.arrays.specs.Arrays.{arrayIn}
 use Rattle.walks.proofs.Numbers.{array-walk-same}
 use Rattle.walks.proofs.refusals.array_walk_number.Statement.{statement}
 use Rattle.walks.proofs.refusals.array_walk_number.Tie as tie

@@ -3,10 +3,10 @@
 use Prim.Native.Nat.{_-_}
 use native.Mathlib.Omega.{arith}
 use lib.ListN.{length-set}
 use Rattle.images.specs.Checking.{image}
-use Rattle.images.proofs.Grouping.{Grouped, group-start, group-few, group-lengths, group-list, group-more, group-end}
-use Rattle.images.proofs.array.group.Statement.{statement}
-use Rattle.images.proofs.array.group.Tie as tie
+use Rattle.arrays.proofs.Grouping.{Grouped, group-start, group-few, group-lengths, group-list, group-more, group-end}
+use Rattle.arrays.proofs.group.Statement.{statement}
+use Rattle.arrays.proofs.group.Tie as tie
 
 abbrev Inv-loop : tie.InvT-loop
 Inv-loop n m after tail firsts₀ tails₀ numbers₀ p₀ u₀ firsts tails numbers p u = Grouped (image n m after tail) firsts₀ tails₀ numbers₀ firsts tails numbers p u

@@ -1,8 +1,11 @@
 // The array form: converting a linked image to it, and asking it for the edges out of one vertex.
-use crate::check::check_image;
-use crate::check::tail_out;
-use crate::nodes::Vertex;
-use crate::nodes::is_vertex;
+//
+// Every public function takes any input at all: it is refused with its number of document 01 and
+// changes nothing, or it does its work. Document 01's element is a vertex here, its reference an edge.
+use images::Vertex;
+use images::check_image;
+use images::is_vertex;
+use images::tail_out;
 ghost use mathlib.Core.Path.{_≡_};
 ghost use mathlib.Core.List.{List, [], map};
 ghost use Prim.Native.Nat.{ℕ, _+_, _-_, _≤_};
@@ -11,9 +14,9 @@ ghost use Rattle.lists.specs.Words.{overlay, pasted};
 ghost use Rattle.graphs.specs.Image.{to, edgesOf};
 ghost use Rattle.graphs.specs.ArrayForm.{arrayOf, numbersOf};
 ghost use Rattle.graphs.specs.Refusals.{arrayNumber, firstOut};
 ghost use Rattle.images.specs.Checking.{image};
-ghost use Rattle.images.specs.Arrays.{unlessRefused, convertNumber, queried, arrayIn};
-ghost use Rattle.images.specs.Grouping.{CanList, CanGroup};
+ghost use Rattle.arrays.specs.Arrays.{unlessRefused, convertNumber, queried, arrayIn};
+ghost use Rattle.arrays.specs.Grouping.{CanList, CanGroup};
 
 // Writes the edges of the list of u from position p on, each with the vertex that it leads to, and gives the position past them.
 fn list_edges(

@@ -4,8 +4,8 @@ use mathlib.Core.Path.{sym, _∙_}
 use borrow.Author.Tests.{eq-eqb, ne-eqb, lt-ltb, le-ltb, not-true, not-false}
 use borrow.Author.Needs.{needs}
 use Rattle.graphs.specs.Refusals.{arrayNumber}
-use Rattle.images.proofs.array.edges_out_number.Statement.{statement}
-use Rattle.images.proofs.array.edges_out_number.Tie as tie
+use Rattle.arrays.proofs.edges_out_number.Statement.{statement}
+use Rattle.arrays.proofs.edges_out_number.Tie as tie
 
 returns : tie.Need-returns
 unfolding arrayNumber

@@ -17,9 +17,9 @@ use Rattle.graphs.specs.Refusals.{lent, imageNumber}
 use Rattle.graphs.proofs.Refusals.{long}
 use Rattle.graphs.proofs.Sound.{Sound, head0, Linked, image-sound}
 use Rattle.graphs.proofs.Arrays.{lists-few}
-use Rattle.images.specs.Arrays.{convertedAreas, convertNumber}
-use Rattle.images.specs.Grouping.{CanList, CanGroup}
-use Rattle.images.proofs.Arrays.{read-at}
+use Rattle.arrays.specs.Arrays.{convertedAreas, convertNumber}
+use Rattle.arrays.specs.Grouping.{CanList, CanGroup}
+use Rattle.arrays.proofs.Arrays.{read-at}
 
 -- A word stored at position q, behind the words pasted from position p on.
 store : (p q w : ℕ) (area ws now : List ℕ) → now ≡ pasted (p - 1) ws area → 1 ≤ p → q ≡ p + length ws → q ≤ length area → set now (q - 1) w ≡ pasted (p - 1) (ws ++ (w ∷ [])) area

@@ -4,10 +4,10 @@ use mathlib.Core.Path.{_∙_}
 use borrow.Author.Tests.{eq-eqb, ne-eqb, lt-ltb, le-ltb}
 use borrow.Author.Needs.{needs}
 use Rattle.graphs.specs.Refusals.{imageNumber}
 use Rattle.images.specs.Checking.{image}
-use Rattle.images.proofs.Grouping.{convert-same}
-use Rattle.images.proofs.array.convert_number.Statement.{statement}
-use Rattle.images.proofs.array.convert_number.Tie as tie
+use Rattle.arrays.proofs.Grouping.{convert-same}
+use Rattle.arrays.proofs.convert_number.Statement.{statement}
+use Rattle.arrays.proofs.convert_number.Tie as tie
 
 returns : tie.Need-returns
 unfolding imageNumber

@@ -2,9 +2,9 @@
 -- The first, the last, and each beside its neighbour are tested; those passed never fall.
 use Prim.Native.Nat.{_-_, _≤_}
 use native.Mathlib.Omega.{arith}
-use Rattle.images.proofs.Arrays.{Rising, wrong-begin, wrong-end, falls, all-right, rising-more}
-use Rattle.images.proofs.array.first_out.Statement.{statement}
-use Rattle.images.proofs.array.first_out.Tie as tie
+use Rattle.arrays.proofs.Arrays.{Rising, wrong-begin, wrong-end, falls, all-right, rising-more}
+use Rattle.arrays.proofs.first_out.Statement.{statement}
+use Rattle.arrays.proofs.first_out.Tie as tie
 
 abbrev Inv-loop : tie.InvT-loop
 Inv-loop n m firsts top last i₀ i = (i ≤ n) × Rising firsts i

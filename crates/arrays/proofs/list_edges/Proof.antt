@@ -2,10 +2,10 @@
 -- What was written and what is still to follow are the list; a turn moves one edge over.
 use Prim.Native.Nat.{suc, _-_}
 use native.Mathlib.Omega.{arith}
 use Rattle.images.specs.Checking.{image}
-use Rattle.images.proofs.Grouping.{Listed, list-first, list-start, list-turn, list-more, list-lengths, list-end}
-use Rattle.images.proofs.array.list_edges.Statement.{statement}
-use Rattle.images.proofs.array.list_edges.Tie as tie
+use Rattle.arrays.proofs.Grouping.{Listed, list-first, list-start, list-turn, list-more, list-lengths, list-end}
+use Rattle.arrays.proofs.list_edges.Statement.{statement}
+use Rattle.arrays.proofs.list_edges.Tie as tie
 
 abbrev Inv-loop : tie.InvT-loop
 Inv-loop n m u after tail tails₀ numbers₀ p q₀ first r₀ tails numbers q r = Listed (image n m after tail) u p tails₀ numbers₀ tails numbers q r

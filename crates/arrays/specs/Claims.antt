@@ -6,7 +6,7 @@ use Rattle.graphs.specs.Nodes.{Vertex}
 use Rattle.graphs.specs.Image.{Image, edgesOf, to}
 use Rattle.graphs.specs.ArrayForm.{ArrayForm, arrayGraph, arrayLeft}
 use Rattle.graphs.specs.Refusals.{Lent, imageNumber, arrayNumber}
-use Rattle.images.specs.Arrays.{queried}
+use Rattle.arrays.specs.Arrays.{queried}
 
 -- A query taken gets the elements that the references of u lead to, in their order.
 abbrev pub QueryClaim : Type 0

@@ -20,9 +20,9 @@ use Rattle.graphs.specs.Refusals.{refuse, vertexOut, firstOut, tailOut, sizeRef
 use Rattle.graphs.proofs.Nodes.{vertex-is}
 use Rattle.graphs.proofs.Refusals.{all-false, long}
 use Rattle.graphs.proofs.Arrays.{part-values, array-same}
-use Rattle.images.specs.Arrays.{unlessRefused, arrayIn, partOf, queried}
-use Rattle.images.specs.Claims.{QueryClaim, ConvertClaim}
 use Rattle.images.proofs.Checks.{word-here}
+use Rattle.arrays.specs.Arrays.{unlessRefused, arrayIn, partOf, queried}
+use Rattle.arrays.specs.Claims.{QueryClaim, ConvertClaim}
 
 -- ---- first positions
 -- A word as the code reads it.

@@ -2,10 +2,10 @@
 -- The query's number is 0 only where the first positions of u and of the next element bound a part of the tails.
 use native.Mathlib.Omega.{arith}
 use borrow.Author.Needs.{needs}
-use Rattle.images.specs.Arrays.{arrayIn}
-use Rattle.images.proofs.Arrays.{Asked, query-asked, query-refused, query-part}
-use Rattle.images.proofs.array.edges_out.Statement.{statement}
-use Rattle.images.proofs.array.edges_out.Tie as tie
+use Rattle.arrays.specs.Arrays.{arrayIn}
+use Rattle.arrays.proofs.Arrays.{Asked, query-asked, query-refused, query-part}
+use Rattle.arrays.proofs.edges_out.Statement.{statement}
+use Rattle.arrays.proofs.edges_out.Tie as tie
 
 edges-out-number-requires : tie.Need-edges-out-number-requires
 edges-out-number-requires c κs = search needs

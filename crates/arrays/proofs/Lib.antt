@@ -1,0 +1,3 @@
+-- Array forms: queries, converting.
+pub mod Arrays
+pub mod Grouping
