@@ -1,10 +1,13 @@
 // Areas of words and of bytes. A place past the end reads as 0 and takes nothing.
 //
-// All areas of a case stand side by side on one desk, each of 5,100 words: enough for the largest image and some words past it.
+// All areas of a case stand side by side on one desk, each of 5,100 words: enough for the largest image and some words past it. Behind
+// them stands one of 54,100 words, for events.
 
 pub(crate) const SPAN: usize = 5100;
 
-pub(crate) type Desk = [u16; 61200];
+pub(crate) const WIDE: usize = 54100;
+
+pub(crate) type Desk = [u16; 115300];
 
 // A text stands at the start of its area, one that it is made of behind it.
 pub(crate) type Text = [u8; 132000];
@@ -27,6 +30,18 @@ pub(crate) const NUMBERS: usize = 10;
 // What the second implementation says that an area holds after a call.
 pub(crate) const WANT: usize = 11;
 
+// The areas of a search, in place of those that a walk does not need: the stack of vertices, the lines that were looked through for
+// each, the labels, what is counted. The marks that the walk leaves.
+pub(crate) const STACK: usize = 0;
+
+pub(crate) const LINES: usize = 1;
+
+pub(crate) const LABELS: usize = 2;
+
+pub(crate) const COUNTS: usize = 8;
+
+pub(crate) const MARKS: usize = 9;
+
 // What an area holds before a call, in every word.
 pub(crate) const UNTOUCHED: u16 = 60001;
 
@@ -42,6 +57,17 @@ pub(crate) fn get_at(d: &Desk, area: usize, i: usize) -> u16 {
 pub(crate) fn put_at(d: &mut Desk, area: usize, i: usize, w: u16) {
     if i < SPAN {
         d[area % 12 * SPAN + i] = w;
+    }
+}
+
+// Word i of the events.
+pub(crate) fn event_at(d: &Desk, i: usize) -> u16 {
+    if i < WIDE { d[61200 + i] } else { 0 }
+}
+
+pub(crate) fn put_event(d: &mut Desk, i: usize, w: u16) {
+    if i < WIDE {
+        d[61200 + i] = w;
     }
 }
 
@@ -83,6 +109,14 @@ pub(crate) fn byte_at(text: &Text, i: usize) -> u8 {
 pub(crate) fn put_byte(text: &mut Text, i: usize, b: u8) {
     if i < 132000 {
         text[i] = b;
+    }
+}
+
+pub(crate) fn lent_bytes(a: &mut [u8], length: usize) -> &mut [u8] {
+    if length < a.len() {
+        &mut a[0..length]
+    } else {
+        a
     }
 }
 

@@ -65,6 +65,23 @@ pub(crate) fn read_profile(text: &[u8], after: &mut [u16], tail: &mut [u16]) -> 
     }
 }
 
+// What is told of the walk of a text, as one number: the bytes that are printed, and its number.
+pub(crate) fn reported(number: u16, bytes: usize) -> u64 {
+    bytes as u64 % 4294967296 * 65536 + number as u64
+}
+
+pub(crate) fn walk_text(
+    text: &[u8],
+    after: &mut [u16],
+    tail: &mut [u16],
+    marks: &mut [u16],
+    events: &mut [u16],
+    output: &mut [u8],
+) -> u64 {
+    let r = report::walk_text(text, after, tail, marks, events, output);
+    reported(r.number, r.bytes)
+}
+
 // The answer that is said.
 pub(crate) fn answer(said: u64) -> u16 {
     if said < 65536 { word(said) } else { 0 }

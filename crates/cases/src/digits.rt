@@ -4,6 +4,7 @@ use crate::areas::between;
 use crate::areas::byte_at;
 use crate::areas::first_bytes;
 use crate::areas::get_byte;
+use crate::areas::lent_bytes;
 use crate::areas::put_byte;
 use crate::areas::word;
 use crate::calls::found;
@@ -94,14 +95,6 @@ fn bytes_differ(text: &Text, top: usize) -> bool {
         i += 1;
     }
     false
-}
-
-fn lent_bytes(a: &mut [u8], length: usize) -> &mut [u8] {
-    if length < a.len() {
-        &mut a[0..length]
-    } else {
-        a
-    }
 }
 
 // Writes x into the first `length` bytes of an area; the area, whole, comes into the text, and one that is untouched behind it.

@@ -10,12 +10,16 @@ mod image;
 mod limits;
 mod listing;
 mod nodes;
+mod printed;
 mod profiles;
 mod queries;
 mod reader;
 mod rows;
+mod search;
 mod tally;
 mod text_rows;
+mod walk_rows;
+mod walked;
 mod writer;
 
 use crate::areas::Desk;
@@ -66,13 +70,22 @@ fn number_case(text: &mut Text, group: u16, i: usize) -> Outcome {
     }
 }
 
+// Case i of a group on walks.
+fn walk_case(d: &mut Desk, text: &mut Text, group: u16, i: usize) -> Outcome {
+    match group {
+        17 => walk_rows::case(d, text, i),
+        _ => walked::drawn_case(d, text, i as u64, group != 18),
+    }
+}
+
 // Case i of a group.
 fn case(d: &mut Desk, text: &mut Text, group: u16, i: usize) -> Outcome {
     match group {
         0..=5 => image_case(d, group, i),
         6..=8 => array_case(d, group, i),
         9..=11 => text_case(d, text, group, i),
-        _ => number_case(text, group, i),
+        12..=16 => number_case(text, group, i),
+        _ => walk_case(d, text, group, i),
     }
 }
 
@@ -87,7 +100,7 @@ fn cases(d: &mut Desk, text: &mut Text, t: &mut Tally, group: u16, top: usize) {
 
 // Runs the first `top` cases of a group and prints what they gave.
 fn print(name: &[u8], group: u16, top: usize) {
-    let mut d = [0u16; 61200];
+    let mut d = [0u16; 115300];
     let mut text = [0u8; 132000];
     let mut t = [0usize; 16];
     cases(&mut d, &mut text, &mut t, group, top);
@@ -123,6 +136,12 @@ fn print_numbers() {
     print(b"is_link", 16, 4000);
 }
 
+fn print_walks() {
+    print(b"walk_text: examples and limits", 17, 95);
+    print(b"walk_text: texts in form", 18, 2000);
+    print(b"walk_text: damaged texts", 19, 4000);
+}
+
 fn main() {
     io::write_all(
         1,
@@ -132,4 +151,5 @@ fn main() {
     print_arrays();
     print_texts();
     print_numbers();
+    print_walks();
 }

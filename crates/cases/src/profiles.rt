@@ -49,20 +49,20 @@ fn load(d: &mut Desk, text: &[u8], of_after: usize, of_tail: usize) -> u64 {
 }
 
 // What the second reader says of a text.
-fn said(d: &mut Desk, text: &[u8], of_after: usize, of_tail: usize) -> u64 {
+pub(crate) fn said(d: &mut Desk, text: &[u8], of_after: usize, of_tail: usize) -> u64 {
     let mut r = [0u64; 10];
     read_text(d, &mut r, text);
     judged(&r, text.len(), of_after, of_tail)
 }
 
 // Whether the areas on the desk do not hold the image of the pairs that were read; of sizes 0, whether a word was touched.
-fn image_differs(d: &mut Desk, n: u16, m: u16) -> bool {
+pub(crate) fn image_differs(d: &mut Desk, n: u16, m: u16) -> bool {
     let a = area_differs(d, AFTER, n as usize + m as usize, AFTER_WORDS, FOUND, n, m);
     a || area_differs(d, TAIL, m as usize, COPIED, FOUND + 2, n, m)
 }
 
 // The sizes that are said of a text: 0 where it is refused.
-fn said_n(said: u64) -> u16 {
+pub(crate) fn said_n(said: u64) -> u16 {
     if said < 65536 {
         0
     } else {
@@ -70,7 +70,7 @@ fn said_n(said: u64) -> u16 {
     }
 }
 
-fn said_m(said: u64) -> u16 {
+pub(crate) fn said_m(said: u64) -> u16 {
     if said < 65536 {
         0
     } else {
@@ -253,22 +253,44 @@ fn read_listed(d: &mut Desk, text: &[u8], seed: u64, n: u16, m: u16) -> Outcome 
     also(read_drawn(d, text, seed), differs)
 }
 
-pub(crate) fn sound_case(d: &mut Desk, text: &mut Text, seed: u64) -> Outcome {
+// Draws a text in form; its length.
+pub(crate) fn draw_listed(d: &mut Desk, text: &mut Text, seed: u64) -> usize {
     let n = draw_n(seed);
-    let m = draw_m(seed);
-    let length = draw_text(d, text, seed, n, as_listed(seed, n, m), no_damage());
-    read_listed(d, first_bytes(text, length), seed, n, m)
+    draw_text(
+        d,
+        text,
+        seed,
+        n,
+        as_listed(seed, n, draw_m(seed)),
+        no_damage(),
+    )
 }
 
-pub(crate) fn damaged_case(d: &mut Desk, text: &mut Text, seed: u64) -> Outcome {
+// Draws a damaged text; its length.
+pub(crate) fn draw_damaged(d: &mut Desk, text: &mut Text, seed: u64) -> usize {
     let n = draw_n(seed);
-    let length = draw_text(
+    draw_text(
         d,
         text,
         seed,
         n,
         not_as_listed(seed, n, draw_m(seed)),
         draw_damage(seed),
-    );
+    )
+}
+
+pub(crate) fn sound_case(d: &mut Desk, text: &mut Text, seed: u64) -> Outcome {
+    let length = draw_listed(d, text, seed);
+    read_listed(
+        d,
+        first_bytes(text, length),
+        seed,
+        draw_n(seed),
+        draw_m(seed),
+    )
+}
+
+pub(crate) fn damaged_case(d: &mut Desk, text: &mut Text, seed: u64) -> Outcome {
+    let length = draw_damaged(d, text, seed);
     read_drawn(d, first_bytes(text, length), seed)
 }

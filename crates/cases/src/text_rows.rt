@@ -199,11 +199,6 @@ fn read_row(d: &mut Desk, text: &[u8], r: Row) -> Outcome {
     also(expected(o, r.number), ends_elsewhere(r, text.len()))
 }
 
-fn row_case(d: &mut Desk, text: &mut Text, r: Row) -> Outcome {
-    let length = draw_text(d, text, 3, r.vertices, written(r), damage(r));
-    read_row(d, first_bytes(text, length), r)
-}
-
 fn load_printed(after: &mut [u16], tail: &mut [u16]) -> u64 {
     read_profile(
         b"elements,references,start\n3,4,1\nfrom,to\n1,2\n1,3\n2,3\n3,1\n",
@@ -237,9 +232,22 @@ fn text_row(i: usize) -> Row {
     limit_row(i)
 }
 
+// Draws the text of row i; its length.
+pub(crate) fn draw_row(d: &mut Desk, text: &mut Text, i: usize) -> usize {
+    let r = text_row(i);
+    draw_text(d, text, 3, r.vertices, written(r), damage(r))
+}
+
+// The number that the text of row i is to be answered with.
+pub(crate) fn row_number(i: usize) -> u16 {
+    let r = text_row(i);
+    r.number
+}
+
 pub(crate) fn text_case(d: &mut Desk, text: &mut Text, i: usize) -> Outcome {
     if i == 48 {
         return printed_profile();
     }
-    row_case(d, text, text_row(i))
+    let length = draw_row(d, text, i);
+    read_row(d, first_bytes(text, length), text_row(i))
 }

@@ -35,7 +35,7 @@ pub(crate) fn put_number(text: &mut Text, at: usize, x: u64) -> usize {
 }
 
 // Puts names; the place past them.
-fn put_names(text: &mut Text, at: usize, names: &[u8]) -> usize {
+pub(crate) fn put_names(text: &mut Text, at: usize, names: &[u8]) -> usize {
     let top = names.len();
     let mut p = at;
     let mut i: usize = 0;
@@ -47,7 +47,7 @@ fn put_names(text: &mut Text, at: usize, names: &[u8]) -> usize {
 }
 
 // Two numbers, with a comma between them and the byte stop behind.
-fn put_two(text: &mut Text, at: usize, x: u64, y: u64, stop: u8) -> usize {
+pub(crate) fn put_two(text: &mut Text, at: usize, x: u64, y: u64, stop: u8) -> usize {
     let a = put_number(text, at, x);
     let b = put_one(text, a, 44);
     let c = put_number(text, b, y);

@@ -102,6 +102,11 @@ pub(crate) const WHOLE: usize = 29;
 
 pub(crate) const SCRIPTED: usize = 30;
 
+// The panel's figure: how often 65,536, and the rest.
+pub(crate) const HIGH: usize = 31;
+
+pub(crate) const LOW: usize = 32;
+
 // What an area for events holds before a case, in every word.
 pub(crate) const UNTOUCHED: u16 = 60001;
 

@@ -1,4 +1,4 @@
-// The calls that the cases are of. No other file names the crates that they are in.
+// The calls of the folded search that the cases are of. Those of the panel are in `panels`.
 use crate::areas::AFTER;
 use crate::areas::BUDGET;
 use crate::areas::CALL;
@@ -40,7 +40,7 @@ fn amount(w: u16) -> u32 {
 }
 
 // The state on the desk.
-fn state_of(d: &Desk) -> State {
+pub(crate) fn state_of(d: &Desk) -> State {
     State {
         n: said(d, N),
         m: said(d, M),
@@ -147,11 +147,11 @@ fn reason_number(why: Reason) -> u16 {
     }
 }
 
-// 13 for what is no number of a refusal.
+// 15 for what is no number of a refusal.
 fn refusal_number(k: u16) -> u16 {
     match k {
-        1..=9 => k,
-        _ => 13,
+        1..=11 => k,
+        _ => 15,
     }
 }
 

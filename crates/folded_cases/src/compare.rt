@@ -25,7 +25,7 @@ use states::Reply;
 use states::State;
 
 // Notes where the state differs from the one on the desk.
-fn note_state(d: &mut Desk, s: State) {
+pub(crate) fn note_state(d: &mut Desk, s: State) {
     let mut i: usize = 0;
     while i < 9 {
         note(d, field(s, i) != said(d, i));

@@ -1,6 +1,6 @@
-// Runs the calls of the folded search on cases, and compares every answer and every lent word with a second implementation. One line is
-// printed for each group of cases: how many there are, how many differ, and how many calls were taken, refused with each number of
-// document 01, or stopped for each reason.
+// Runs the calls of the folded search and of the panel on cases, and compares every answer, every lent word and the panel's figure with a
+// second implementation. One line is printed for each group of cases: how many there are, how many differ, and how many calls were taken,
+// refused with each number of document 01, or stopped for each reason. A shift start answers nothing and is not among the calls counted.
 mod areas;
 mod calls;
 mod cases;
@@ -8,6 +8,7 @@ mod chance;
 mod compare;
 mod drawn;
 mod moves;
+mod panels;
 mod profiles;
 mod search;
 mod second;
@@ -27,7 +28,10 @@ fn case(d: &mut Desk, group: u16, i: u16) {
         4 => cases::listed_case(d, i),
         5 => cases::hostile_case(d, i),
         6 => cases::long_case(d, i),
-        _ => cases::script_case(d, i),
+        7 => cases::script_case(d, i),
+        8 => panels::row_case(d, i),
+        9 => panels::state_case(d, i),
+        _ => panels::list_case(d, i),
     }
 }
 
@@ -50,7 +54,7 @@ fn print(name: &[u8], group: u16, top: u16) {
 fn main() {
     io::write_all(
         1,
-        b"group,cases,differing,taken,1,2,3,4,5,6,7,8,9,ended,spent,stuck\n",
+        b"group,cases,differing,taken,1,2,3,4,5,6,7,8,9,10,11,ended,spent,stuck\n",
     );
     print(b"openings: every set of faults", 0, 512);
     print(b"openings: damaged links", 1, 4000);
@@ -60,4 +64,7 @@ fn main() {
     print(b"states and links by chance", 5, 20000);
     print(b"limits", 6, 48);
     print(b"scripts", 7, 10000);
+    print(b"accepting: examples", 8, 108);
+    print(b"accepting: states by chance", 9, 20000);
+    print(b"panel: lists of orders", 10, 500);
 }

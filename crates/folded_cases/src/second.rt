@@ -11,7 +11,9 @@ use crate::areas::CIRCULAR;
 use crate::areas::Desk;
 use crate::areas::E;
 use crate::areas::F;
+use crate::areas::HIGH;
 use crate::areas::LENGTHS;
+use crate::areas::LOW;
 use crate::areas::M;
 use crate::areas::MADE;
 use crate::areas::MARKS;
@@ -41,7 +43,7 @@ use crate::moves::step;
 use crate::turns::ZEROS;
 use crate::turns::each;
 
-// The calls by number, as in a script; the opening is 0, and a script 4.
+// The calls by number, as in a script; the opening is 0, a script 4, and accepting 5.
 pub(crate) const OPEN: u16 = 0;
 
 pub(crate) const RUN: u16 = 1;
@@ -52,12 +54,14 @@ pub(crate) const ORDER: u16 = 3;
 
 pub(crate) const REPLAY: u16 = 4;
 
-// Answers that are no number of document 01: a run ended, spent, stuck.
-pub(crate) const ENDED: u16 = 10;
+pub(crate) const ACCEPT: u16 = 5;
 
-pub(crate) const SPENT: u16 = 11;
+// Answers that are no number with which these calls are refused: a run ended, spent, stuck.
+pub(crate) const ENDED: u16 = 12;
 
-pub(crate) const STUCK: u16 = 12;
+pub(crate) const SPENT: u16 = 13;
+
+pub(crate) const STUCK: u16 = 14;
 
 // The least length of an area: after, tail, marks, events.
 pub(crate) fn least_length(d: &Desk, area: usize) -> usize {
@@ -76,9 +80,9 @@ fn least_events(call: u16, budget: u16) -> usize {
     }
 }
 
-// Whether an area is lent shorter than stated. A roll-back order is lent none.
+// Whether an area is lent shorter than stated. A roll-back order is lent none, and so is accepting.
 fn is_short(d: &Desk) -> bool {
-    if said(d, CALL) == ORDER {
+    if said(d, CALL) > STEP {
         return false;
     }
     let mut i: usize = 0;
@@ -173,6 +177,24 @@ fn open_number(d: &Desk) -> u16 {
     check_image(said(d, N), said(d, M), whole(d, AFTER), whole(d, TAIL))
 }
 
+// Whether the figure is too great: 999,999 is 15 times 65,536 and 16,959.
+fn is_full(d: &Desk) -> bool {
+    match said(d, HIGH) {
+        0..=14 => false,
+        15 => said(d, LOW) >= 16959,
+        _ => true,
+    }
+}
+
+// What the phase shows when a state is accepted, and then the figure, or 0.
+fn accept_number(d: &Desk) -> u16 {
+    match said(d, PHASE) {
+        3 => if is_full(d) { 11 } else { 0 },
+        5..=6 => 9,
+        _ => 10,
+    }
+}
+
 // The number of the call on the desk, or 0.
 fn number(d: &Desk, call: u16) -> u16 {
     if call == OPEN {
@@ -184,6 +206,9 @@ fn number(d: &Desk, call: u16) -> u16 {
     }
     if call == RUN {
         return 0;
+    }
+    if call == ACCEPT {
+        return accept_number(d);
     }
     if is_over(d) { 9 } else { 0 }
 }
@@ -240,12 +265,23 @@ fn order(d: &mut Desk) -> u16 {
     0
 }
 
+// One more card.
+fn accept(d: &mut Desk) -> u16 {
+    say(d, PHASE, 6);
+    raise(d, LOW, 1);
+    if said(d, LOW) == 0 {
+        raise(d, HIGH, 1);
+    }
+    0
+}
+
 // What a call does that no field turns back: its answer.
 fn act(d: &mut Desk, call: u16) -> u16 {
     match call {
         RUN => run(d, said(d, BUDGET)),
         STEP => single(d),
         ORDER => order(d),
+        ACCEPT => accept(d),
         _ => open(d, said(d, START)),
     }
 }

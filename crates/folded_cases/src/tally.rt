@@ -29,7 +29,7 @@ pub(crate) fn count_case(d: &mut Desk) {
 pub(crate) fn print_counts(name: &[u8], d: &Desk) {
     io::write_all(1, name);
     let mut i: usize = 0;
-    while i < 15 {
+    while i < 17 {
         io::write_all(1, b",");
         let x = said(d, COUNTS + i);
         io::print_decimal(1, x as u64);

@@ -21,6 +21,7 @@ use crate::drawn::fault;
 use crate::drawn::write_back;
 use crate::drawn::write_call;
 use crate::moves::undo;
+use crate::panels::put_word;
 use crate::profiles::make_edge;
 use crate::search::turn_search;
 use crate::second::RUN;
@@ -55,6 +56,8 @@ pub(crate) const JAMS: usize = 54;
 pub(crate) const BACK: usize = 55;
 
 pub(crate) const LISTED: usize = 56;
+
+pub(crate) const ROWS: usize = 57;
 
 // Notes how the links are loaded.
 fn hold(d: &mut Desk, i: usize) {
@@ -96,6 +99,7 @@ fn turn(d: &mut Desk, kind: usize, i: usize) {
         STEPPED => write_back(d, i),
         JAMS => write_call(d, i, RUN, 1000),
         BACK => back(d, i),
+        ROWS => put_word(d, i),
         _ => same(d, EVENTS, LIST, i),
     }
 }

@@ -1,0 +1,104 @@
+// What is printed of a text, by the second writer: the events and the counts of the search on the desk, or a refusal.
+use crate::areas::COUNTS;
+use crate::areas::Desk;
+use crate::areas::Text;
+use crate::areas::UNTOUCHED;
+use crate::areas::event_at;
+use crate::areas::get;
+use crate::areas::get_at;
+use crate::areas::get_byte;
+use crate::search::CIRCULAR;
+use crate::search::LABELLED;
+use crate::search::MOVES;
+use crate::search::WORDS;
+use crate::writer::put_names;
+use crate::writer::put_number;
+use crate::writer::put_one;
+use crate::writer::put_two;
+
+// What an output area holds before a call, in every byte.
+pub(crate) const BLANK: u8 = 35;
+
+// A line of three numbers.
+fn put_row(text: &mut Text, at: usize, a: u16, b: u16, c: u16) -> usize {
+    let p = put_two(text, at, a as u64, b as u64, 44);
+    let q = put_number(text, p, c as u64);
+    put_one(text, q, 10)
+}
+
+// The lines of the events.
+fn put_rows(text: &mut Text, at: usize, d: &Desk) -> usize {
+    let top = get_at(d, COUNTS, WORDS) as usize / 3;
+    let mut p = at;
+    let mut i: usize = 0;
+    while i < top {
+        let k = i % 65536 * 3;
+        p = put_row(
+            text,
+            p,
+            event_at(d, k),
+            event_at(d, k + 1),
+            event_at(d, k + 2),
+        );
+        i += 1;
+    }
+    p
+}
+
+// The walk on the desk, from the start of the text on; how many bytes it has.
+pub(crate) fn put_walk(text: &mut Text, d: &Desk) -> usize {
+    let a = put_names(text, 0, b"event,reference,element\n");
+    let b = put_rows(text, a, d);
+    let c = put_names(text, b, b"elements,moves,circular\n");
+    put_row(
+        text,
+        c,
+        get_at(d, COUNTS, LABELLED),
+        get_at(d, COUNTS, MOVES),
+        get_at(d, COUNTS, CIRCULAR),
+    )
+}
+
+// The walk on the desk where the number is 0; else the refusal, of which nothing is printed where there is no room for it.
+pub(crate) fn put_report(text: &mut Text, d: &Desk, k: u16, room: usize) -> usize {
+    if k == 0 {
+        return put_walk(text, d);
+    }
+    let a = put_names(text, 0, b"refused,");
+    let b = put_number(text, a, k as u64);
+    let c = put_one(text, b, 10);
+    if room < c { 0 } else { c }
+}
+
+// Whether an output area that was blank does not hold the first `length` bytes of a text, and else its old bytes.
+pub(crate) fn output_differs(output: &[u8], text: &[u8], length: usize) -> bool {
+    let top = output.len();
+    let mut i: usize = 0;
+    while i < top {
+        let b = if i < length { get_byte(text, i) } else { BLANK };
+        if get_byte(output, i) != b {
+            return true;
+        }
+        i += 1;
+    }
+    false
+}
+
+// Whether an event area that was untouched does not hold the events on the desk, and else its old words.
+pub(crate) fn events_differ(events: &[u16], d: &Desk) -> bool {
+    let length = get_at(d, COUNTS, WORDS) as usize;
+    let top = events.len();
+    let mut i: usize = 0;
+    while i < top {
+        let w = if i < length {
+            event_at(d, i)
+        } else {
+            UNTOUCHED
+        };
+        if get(events, i) != w {
+            return true;
+        }
+        i += 1;
+    }
+    false
+}

@@ -1,0 +1,112 @@
+// Texts whose walk is written down, or whose number: document 01's example, the rows of the table of texts, a chain of 1,000 vertices,
+// areas that are too short and outputs without room.
+use crate::areas::COUNTS;
+use crate::areas::Desk;
+use crate::areas::LISTED;
+use crate::areas::SPAN;
+use crate::areas::Text;
+use crate::areas::differ;
+use crate::areas::first_bytes;
+use crate::areas::part;
+use crate::areas::put_at;
+use crate::listing::edge;
+use crate::printed::output_differs;
+use crate::printed::put_walk;
+use crate::tally::Outcome;
+use crate::tally::also;
+use crate::tally::expected;
+use crate::text_rows::draw_row;
+use crate::text_rows::row_number;
+use crate::walked::walked;
+use crate::writer::Written;
+use crate::writer::put_names;
+use crate::writer::put_text;
+
+// The printed profile, with the bytes that are printed of it.
+fn printed_case(d: &mut Desk, text: &mut Text) -> Outcome {
+    let length = put_names(
+        text,
+        0,
+        b"elements,references,start\n3,4,1\nfrom,to\n1,2\n1,3\n2,3\n3,1\n",
+    );
+    let o = walked(d, text, length, 5, 0);
+    let bytes = put_walk(text, d);
+    let differs = output_differs(
+        first_bytes(text, bytes),
+        b"event,reference,element\n1,0,1\n2,4,1\n1,0,2\n2,6,2\n1,0,3\n3,7,3\n4,7,3\n6,0,3\n5,6,2\n6,0,2\n5,4,1\n3,5,1\n4,5,1\n6,0,1\nelements,moves,circular\n3,11,1\n",
+        139,
+    );
+    also(expected(o, 0), bytes != 139 || differs)
+}
+
+// The pairs of a chain: 1 to 2, 2 to 3 and on.
+fn put_chain(d: &mut Desk, top: usize) {
+    let mut i: usize = 0;
+    while i < top {
+        put_at(d, LISTED, i, edge(0, i));
+        put_at(d, LISTED + 2, i, edge(1, i));
+        i += 1;
+    }
+}
+
+// A chain of 1,000 vertices, with what is counted: all are left, four events for an edge and its end, two for the start.
+fn chain_case(d: &mut Desk, text: &mut Text) -> Outcome {
+    let w = Written {
+        n: 1000,
+        m: 999,
+        start: 1,
+        lines: 999,
+        from_at: SPAN,
+        to_at: SPAN,
+        value: 0,
+    };
+    put_chain(d, 999);
+    let length = put_text(text, 0, w, d);
+    let o = walked(d, text, length, 5, 0);
+    also(
+        expected(o, 0),
+        differ(part(d, COUNTS, 5), &[0, 11994, 1000, 2998, 0]),
+    )
+}
+
+// The text of row i of the table of texts, with the number that it is to be answered with.
+fn row_case(d: &mut Desk, text: &mut Text, i: usize, one: usize, less: usize, k: u16) -> Outcome {
+    let length = draw_row(d, text, i);
+    expected(walked(d, text, length, one, less), k)
+}
+
+// A row of the table of texts, as it is answered there. An area is as long as stated, or one word shorter where the answer is 3.
+fn text_case(d: &mut Desk, text: &mut Text, i: usize) -> Outcome {
+    let k = row_number(i);
+    row_case(d, text, i, i % 5, if k == 3 { 1 } else { 0 }, k)
+}
+
+// One area one word short: 3, but behind 12 and 1 and before 4 and 6; at the limits, with the area as long as stated too. Then
+// outputs of 12 to 8 bytes: there is room for `refused,3` in 10, and for `refused,12` in 11.
+fn short_case(d: &mut Desk, text: &mut Text, i: usize) -> Outcome {
+    let one = i % 5;
+    match i / 5 {
+        0 => row_case(d, text, 1, one, 1, 3),
+        1 => row_case(d, text, 19, one, 1, 12),
+        2 => row_case(d, text, 3, one, 1, 1),
+        3 => row_case(d, text, 10, one, 1, 3),
+        4 => row_case(d, text, 12, one, 1, 3),
+        5 => row_case(d, text, 39, one, 1, 3),
+        6 => row_case(d, text, 39, one, 0, 0),
+        7 => row_case(d, text, 12, 4, 180054 + one, 3),
+        _ => row_case(d, text, 19, 4, 180054 + one, 12),
+    }
+}
+
+pub(crate) fn case(d: &mut Desk, text: &mut Text, i: usize) -> Outcome {
+    if i == 0 {
+        return printed_case(d, text);
+    }
+    if i == 1 {
+        return chain_case(d, text);
+    }
+    if i < 47 {
+        return short_case(d, text, i - 2);
+    }
+    text_case(d, text, i - 47)
+}
