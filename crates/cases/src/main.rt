@@ -137,7 +137,7 @@ fn print_numbers() {
 }
 
 fn print_walks() {
-    print(b"walk_text: examples and limits", 17, 95);
+    print(b"walk_text: examples and limits", 17, 96);
     print(b"walk_text: texts in form", 18, 2000);
     print(b"walk_text: damaged texts", 19, 4000);
 }

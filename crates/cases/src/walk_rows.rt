@@ -1,5 +1,5 @@
-// Texts whose walk is written down, or whose number: document 01's example, the rows of the table of texts, a chain of 1,000 vertices,
-// areas that are too short and outputs without room.
+// Texts whose walk is written down, or whose number: document 01's example, the rows of the table of texts, a chain of 1,000 vertices and
+// the longest walk, areas that are too short and outputs without room.
 use crate::areas::COUNTS;
 use crate::areas::Desk;
 use crate::areas::LISTED;
@@ -7,6 +7,7 @@ use crate::areas::SPAN;
 use crate::areas::Text;
 use crate::areas::differ;
 use crate::areas::first_bytes;
+use crate::areas::next;
 use crate::areas::part;
 use crate::areas::put_at;
 use crate::listing::edge;
@@ -39,34 +40,31 @@ fn printed_case(d: &mut Desk, text: &mut Text) -> Outcome {
     also(expected(o, 0), bytes != 139 || differs)
 }
 
-// The pairs of a chain: 1 to 2, 2 to 3 and on.
+// The pairs of a chain: 1 to 2, 2 to 3 and on, and from 1,000 to 1 again.
 fn put_chain(d: &mut Desk, top: usize) {
     let mut i: usize = 0;
     while i < top {
-        put_at(d, LISTED, i, edge(0, i));
-        put_at(d, LISTED + 2, i, edge(1, i));
+        put_at(d, LISTED, i, edge(0, i % 1000));
+        put_at(d, LISTED + 2, i, edge(0, next(i) % 1000));
         i += 1;
     }
 }
 
-// A chain of 1,000 vertices, with what is counted: all are left, four events for an edge and its end, two for the start.
-fn chain_case(d: &mut Desk, text: &mut Text) -> Outcome {
+// The first m pairs of the chain between 1,000 vertices, with what is counted: event words, vertices reached, moves, circular.
+fn chain_case(d: &mut Desk, text: &mut Text, m: u16, counts: &[u16]) -> Outcome {
     let w = Written {
         n: 1000,
-        m: 999,
+        m: m as u64,
         start: 1,
-        lines: 999,
+        lines: m as usize,
         from_at: SPAN,
         to_at: SPAN,
         value: 0,
     };
-    put_chain(d, 999);
+    put_chain(d, m as usize);
     let length = put_text(text, 0, w, d);
     let o = walked(d, text, length, 5, 0);
-    also(
-        expected(o, 0),
-        differ(part(d, COUNTS, 5), &[0, 11994, 1000, 2998, 0]),
-    )
+    also(expected(o, 0), differ(part(d, COUNTS, 5), counts))
 }
 
 // The text of row i of the table of texts, with the number that it is to be answered with.
@@ -103,10 +101,14 @@ pub(crate) fn case(d: &mut Desk, text: &mut Text, i: usize) -> Outcome {
         return printed_case(d, text);
     }
     if i == 1 {
-        return chain_case(d, text);
+        return chain_case(d, text, 999, &[0, 11994, 1000, 2998, 0]);
     }
-    if i < 47 {
-        return short_case(d, text, i - 2);
+    // All 4,000 edges, four times round: no walk has more moves.
+    if i == 2 {
+        return chain_case(d, text, 4000, &[0, 30000, 1000, 9000, 1]);
     }
-    text_case(d, text, i - 47)
+    if i < 48 {
+        return short_case(d, text, i - 3);
+    }
+    text_case(d, text, i - 48)
 }
