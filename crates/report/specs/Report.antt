@@ -32,12 +32,12 @@ abbrev pub lentAreas : (after tail marks events output : List ℕ) → List Lent
 lentAreas after tail marks events output = lent 5000 after ∷ lent 4000 tail ∷ lent 5000 marks ∷ lent 54003 events ∷ lent 180066 output ∷ []
 
 -- A text in its form is refused by 1, 2, 3, 4, 6, in this order.
-abbrev pub walkNumber : List Lent → Listing → ℕ
-walkNumber areas p = firstOf (sizeRefusals (p .n) (p .m) areas ++ refuse 4 (vertexOut (p .n) (p .start)) ∷ refuse 6 (linesOut (p .n) (p .lines)) ∷ [])
+abbrev pub reportNumber : List Lent → Listing → ℕ
+reportNumber areas p = firstOf (sizeRefusals (p .n) (p .m) areas ++ refuse 4 (vertexOut (p .n) (p .start)) ∷ refuse 6 (linesOut (p .n) (p .lines)) ∷ [])
 
 abbrev pub judgedWith : List Lent → Option Listing → Reading
 judgedWith areas none = refused 12
-judgedWith areas (some p) = decided (walkNumber areas p) p
+judgedWith areas (some p) = decided (reportNumber areas p) p
 
 -- What becomes of a text: 13 first, then 12, then the others.
 unfoldable pub walkReading : List Lent → List ℕ → Reading
