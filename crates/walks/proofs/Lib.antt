@@ -1,7 +1,8 @@
--- What every walk writes, and the numbers of its refusals.
+-- What every walk writes, and the numbers of its refusals; the moves of depth-first walks, the scans of breadth-first ones.
 pub mod Storing
 pub mod Reading
 pub mod Writing
 pub mod Numbers
 pub mod ArrayBegins
 pub mod Moves
+pub mod Scans

@@ -1,0 +1,145 @@
+// Breadth-first search of a linked image, folded into the links (the paper's list version): the after word of the last node of a list,
+// null at rest, leads on to the vertex that waits next. Every link is handed back as found.
+//
+// The public function takes any input at all: it is refused with its number of document 01 and
+// changes nothing, or it does its work. Document 01's element is a vertex here, its reference an edge.
+use images::Vertex;
+use walks::Walked;
+use walks::begin;
+use walks::emit;
+use walks::label;
+use walks::refused;
+use walks::walk_number;
+ghost use mathlib.Core.Path.{_≡_};
+ghost use mathlib.Core.List.{List, []};
+ghost use Prim.Native.Nat.{ℕ, _+_};
+ghost use Rattle.graphs.specs.Results.{marksLeft, eventsLeft};
+ghost use Rattle.images.specs.Checking.{image};
+ghost use Rattle.arrays.specs.Arrays.{unlessRefused};
+ghost use Rattle.walks.specs.Promises.{walkNumber, breadthWalk, tallied};
+ghost use Rattle.breadth_folded.specs.Threads.{Ends, lastFrom, FoldedAt, SomeFoldedAt, FoldedScanned, CanSearch, Ended};
+
+// The last node of the list of x: its last edge, or x itself.
+fn last_node(n: u16, m: u16, x: u16, after: &[u16]) -> u16
+    requires { ⌜ Ends n m x (now after) ⌝ }
+    ensures { λ r. ⌜ r ≡ lastFrom m (now (after .entry)) x ⌝ }
+{
+    let mut f = x;
+    let i = (x - 1) as usize;
+    let mut a = after[i];
+    while a != 0 {
+        f = a;
+        let j = (f - 1) as usize;
+        a = after[j];
+    }
+    f
+}
+
+// What a scan gives: the last node examined, the last node of the queue, and the tally.
+pub(crate) struct Scanned {
+    pub e: u16,
+    pub f: u16,
+    pub tally: [u32; 7],
+}
+
+// Scans v, f being the last node of the queue: traverses each edge on its list, and labels and queues the vertex that it leads to where
+// that is not labelled.
+fn scan_vertex(
+    n: u16,
+    m: u16,
+    start: u16,
+    v: u16,
+    f: u16,
+    after: &mut [u16],
+    tail: &[u16],
+    marks: &mut [u16],
+    events: &mut [u16],
+    tally: [u32; 7],
+) -> Scanned
+    requires { ⌜ SomeFoldedAt n m start v f (now after) (now tail) (now marks) (now events) tally ⌝ }
+    ensures { λ q. ⌜ ((after₀ marks₀ events₀ : List ℕ) → FoldedAt (image n m after₀ (now (tail .entry))) start v f marks₀ events₀ (now (after .entry)) (now (marks .entry)) (now (events .entry)) tally → FoldedScanned (image n m after₀ (now (tail .entry))) start v marks₀ events₀ (now (after .exit)) (now (marks .exit)) (now (events .exit)) tally q) ⌝ }
+{
+    let mut t = tally;
+    let mut last = f;
+    let mut e = v;
+    let i = (v - 1) as usize;
+    let mut a = after[i];
+    while n < a {
+        e = a;
+        let b = emit(events, 7, e, v, t);
+        t = b;
+        let j = (e - n - 1) as usize;
+        let x = tail[j];
+        let l = (x - 1) as usize;
+        if marks[l] == 0 {
+            let c = label(marks, events, x, t);
+            t = c;
+            let k = (last - 1) as usize;
+            after[k] = x;
+            last = last_node(n, m, x, after);
+        }
+        let k = (e - 1) as usize;
+        a = after[k];
+    }
+    let s = emit(events, 6, 0, v, t);
+    Scanned {
+        e: e,
+        f: last,
+        tally: s,
+    }
+}
+
+// The whole search.
+fn search(
+    n: u16,
+    m: u16,
+    start: u16,
+    after: &mut [u16],
+    tail: &[u16],
+    marks: &mut [u16],
+    events: &mut [u16],
+) -> [u32; 7]
+    requires { ⌜ CanSearch (image n m (now after) (now tail)) start (now marks) (now events) ⌝ }
+    ensures { λ q. ⌜ Ended (image n m (now (after .entry)) (now (tail .entry))) start (now (marks .entry)) (now (events .entry)) (now (after .exit)) (now (marks .exit)) (now (events .exit)) q ⌝ }
+{
+    let mut tally = begin(marks, events, n as usize + m as usize, start);
+    let mut f = last_node(n, m, start, after);
+    let mut v = start;
+    while v != 0 {
+        let s = scan_vertex(n, m, start, v, f, after, tail, marks, events, tally);
+        let t = s.tally;
+        tally = t;
+        f = s.f;
+        let i = (s.e - 1) as usize;
+        v = after[i];
+        after[i] = 0;
+    }
+    tally
+}
+
+// Breadth-first search of a linked image from start, with no area of its own. Refused by 1, 2, 3 (all areas), 4, 5, 6, 7.
+pub fn bfs_folded(
+    n: u16,
+    m: u16,
+    start: Vertex,
+    after: &mut [u16],
+    tail: &[u16],
+    marks: &mut [u16],
+    events: &mut [u16],
+) -> Walked
+    ensures number { λ r. ⌜ r .number ≡ walkNumber (image n m (now (after .entry)) (now (tail .entry))) (start .0) (now (marks .entry)) (now (events .entry)) [] ⌝ }
+    ensures tally { λ r. ⌜ r .tally ≡ tallied (r .number) (breadthWalk (image n m (now (after .entry)) (now (tail .entry))) (start .0)) ⌝ }
+    ensures after { λ r. ⌜ now (after .exit) ≡ now (after .entry) ⌝ }
+    ensures marks { λ r. ⌜ now (marks .exit) ≡ unlessRefused (r .number) (marksLeft (n + m) (breadthWalk (image n m (now (after .entry)) (now (tail .entry))) (start .0)) (now (marks .entry))) (now (marks .entry)) ⌝ }
+    ensures events { λ r. ⌜ now (events .exit) ≡ unlessRefused (r .number) (eventsLeft (breadthWalk (image n m (now (after .entry)) (now (tail .entry))) (start .0)) (now (events .entry))) (now (events .entry)) ⌝ }
+{
+    let k = walk_number(n, m, start, after, tail, marks, events, true);
+    if k != 0 {
+        return refused(k);
+    }
+    let tally = search(n, m, start.0, after, tail, marks, events);
+    Walked {
+        number: 0,
+        tally: tally,
+    }
+}

@@ -1,0 +1,114 @@
+// Breadth-first search of a linked image by a queue, in an area of n words. No link is changed.
+//
+// The public function takes any input at all: it is refused with its number of document 01 and
+// changes nothing, or it does its work. Document 01's element is a vertex here, its reference an edge.
+use images::Vertex;
+use walks::Walked;
+use walks::begin;
+use walks::clear;
+use walks::emit;
+use walks::label;
+use walks::refused;
+use walks::walk_number;
+ghost use mathlib.Core.Path.{_≡_};
+ghost use mathlib.Core.List.{List, [], _∷_};
+ghost use Prim.Native.Nat.{ℕ, _+_};
+ghost use Rattle.graphs.specs.Refusals.{lent};
+ghost use Rattle.graphs.specs.Results.{marksLeft, eventsLeft, queueLeft};
+ghost use Rattle.images.specs.Checking.{image};
+ghost use Rattle.arrays.specs.Arrays.{unlessRefused};
+ghost use Rattle.walks.specs.Promises.{walkNumber, breadthWalk, tallied};
+ghost use Rattle.breadth_queue.specs.Queues.{QueueAt, SomeQueueAt, QueueScanned, CanSearch, Ended};
+
+// Scans v: traverses each edge on its list, and labels and queues the vertex that it leads to where that is not labelled.
+fn scan_vertex(
+    n: u16,
+    m: u16,
+    start: u16,
+    v: u16,
+    after: &[u16],
+    tail: &[u16],
+    marks: &mut [u16],
+    queue: &mut [u16],
+    events: &mut [u16],
+    tally: [u32; 7],
+) -> [u32; 7]
+    requires { ⌜ SomeQueueAt (image n m (now after) (now tail)) start v (now marks) (now queue) (now events) tally ⌝ }
+    ensures { λ q. ⌜ ((i : ℕ) (marks₀ queue₀ events₀ : List ℕ) → QueueAt (image n m (now (after .entry)) (now (tail .entry))) start i marks₀ queue₀ events₀ (now (marks .entry)) (now (queue .entry)) (now (events .entry)) tally → QueueScanned (image n m (now (after .entry)) (now (tail .entry))) start i marks₀ queue₀ events₀ (now (marks .exit)) (now (queue .exit)) (now (events .exit)) tally q) ⌝ }
+{
+    let mut t = tally;
+    let i = (v - 1) as usize;
+    let mut e = after[i];
+    while e != 0 {
+        let a = emit(events, 7, e, v, t);
+        t = a;
+        let j = (e - n - 1) as usize;
+        let x = tail[j];
+        let l = (x - 1) as usize;
+        if marks[l] == 0 {
+            let last = t[0] as usize;
+            queue[last] = x;
+            let b = label(marks, events, x, t);
+            t = b;
+        }
+        let k = (e - 1) as usize;
+        e = after[k];
+    }
+    emit(events, 6, 0, v, t)
+}
+
+// The whole search.
+fn search(
+    n: u16,
+    m: u16,
+    start: u16,
+    after: &[u16],
+    tail: &[u16],
+    marks: &mut [u16],
+    queue: &mut [u16],
+    events: &mut [u16],
+) -> [u32; 7]
+    requires { ⌜ CanSearch (image n m (now after) (now tail)) start (now marks) (now queue) (now events) ⌝ }
+    ensures { λ q. ⌜ Ended (image n m (now (after .entry)) (now (tail .entry))) start (now (marks .entry)) (now (queue .entry)) (now (events .entry)) (now (marks .exit)) (now (queue .exit)) (now (events .exit)) q ⌝ }
+{
+    clear(queue, n as usize);
+    let mut tally = begin(marks, events, n as usize + m as usize, start);
+    queue[0] = start;
+    let mut i: usize = 0;
+    while i < tally[0] as usize {
+        let v = queue[i];
+        let t = scan_vertex(n, m, start, v, after, tail, marks, queue, events, tally);
+        tally = t;
+        i += 1;
+    }
+    tally
+}
+
+// Breadth-first search of a linked image from start, with n queue words. Refused by 1, 2, 3 (all areas), 4, 5, 6, 7.
+pub fn bfs_queue(
+    n: u16,
+    m: u16,
+    start: Vertex,
+    after: &[u16],
+    tail: &[u16],
+    marks: &mut [u16],
+    queue: &mut [u16],
+    events: &mut [u16],
+) -> Walked
+    ensures number { λ r. ⌜ r .number ≡ walkNumber (image n m (now (after .entry)) (now (tail .entry))) (start .0) (now (marks .entry)) (now (events .entry)) (lent n (now (queue .entry)) ∷ []) ⌝ }
+    ensures tally { λ r. ⌜ r .tally ≡ tallied (r .number) (breadthWalk (image n m (now (after .entry)) (now (tail .entry))) (start .0)) ⌝ }
+    ensures marks { λ r. ⌜ now (marks .exit) ≡ unlessRefused (r .number) (marksLeft (n + m) (breadthWalk (image n m (now (after .entry)) (now (tail .entry))) (start .0)) (now (marks .entry))) (now (marks .entry)) ⌝ }
+    ensures queue { λ r. ⌜ now (queue .exit) ≡ unlessRefused (r .number) (queueLeft n (breadthWalk (image n m (now (after .entry)) (now (tail .entry))) (start .0)) (now (queue .entry))) (now (queue .entry)) ⌝ }
+    ensures events { λ r. ⌜ now (events .exit) ≡ unlessRefused (r .number) (eventsLeft (breadthWalk (image n m (now (after .entry)) (now (tail .entry))) (start .0)) (now (events .entry))) (now (events .entry)) ⌝ }
+{
+    let long = n as usize <= queue.len();
+    let k = walk_number(n, m, start, after, tail, marks, events, long);
+    if k != 0 {
+        return refused(k);
+    }
+    let tally = search(n, m, start.0, after, tail, marks, queue, events);
+    Walked {
+        number: 0,
+        tally: tally,
+    }
+}

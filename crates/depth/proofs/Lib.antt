@@ -1,2 +1,0 @@
-pub mod Recursion
-pub mod Parents

@@ -1,2 +1,0 @@
-pub mod Recursive
-pub mod Parents

@@ -1,0 +1,63 @@
+-- The recursive walk is the search of the start, with nothing labelled.
+use mathlib.Core.Path.{refl}
+use mathlib.Core.List.{[]}
+use Rattle.images.specs.Checking.{image}
+use Rattle.depth_recursive.proofs.Recursion.{walk-refused, walk-begins, walk-ends}
+use borrow.Author.Needs.{needs}
+use Rattle.depth_recursive.proofs.dfs_recursive.Statement.{statement}
+use Rattle.depth_recursive.proofs.dfs_recursive.Tie as tie
+
+walk-number-requires : tie.Need-walk-number-requires
+walk-number-requires c κs = search needs
+
+refused-requires : tie.Need-refused-requires
+refused-requires c κs = search needs
+
+same-length : tie.Need-same-length
+same-length c = search needs
+
+same-length-2 : tie.Need-same-length-2
+same-length-2 c = search needs
+
+returns : tie.Need-returns
+returns c = let a = c .before .before .before .before .before .before .before .before .before .args in let f = c .refused .ensures in walk-refused (image (a .n) (a .m) (a .after .now) (a .tail .now)) (a .start .0) (a .marks .now) (a .events .now) (f .0) (c .before .before .walk-number .ensures [] refl) (c .before .if1 .taken) (f .1)
+
+add-clear : tie.Need-add-clear
+add-clear c = search needs
+
+clear-requires : tie.Need-clear-requires
+clear-requires c κs = search needs
+
+search-vertex-requires : tie.Need-search-vertex-requires
+search-vertex-requires c κs =
+    let a = c .before .before .before .before .before .before .before .before .before .before .before .before .before .before .args in
+    record { h = []; marks₀ = a .marks .now; events₀ = a .events .now; searching = walk-begins (image (a .n) (a .m) (a .after .now) (a .tail .now)) (a .start .0) (a .marks .now) (a .events .now) (c .before .before .before .before .before .before .before .walk-number .ensures [] refl) (c .before .before .before .before .before .before .if1 .left) (c .before .before .before .before .clear .ensures) }
+
+same-length-3 : tie.Need-same-length-3
+same-length-3 c = search needs
+
+same-length-4 : tie.Need-same-length-4
+same-length-4 c = search needs
+
+returns-2 : tie.Need-returns-2
+returns-2 c =
+    let a = c .before .before .before .before .before .before .before .before .before .before .before .before .before .before .before .before .before .before .before .args in
+    let f = c .before .before .before .before .before .before .before .before .before .before .before .before .walk-number .ensures [] refl in
+    let z = c .before .before .before .before .before .before .before .before .before .before .before .if1 .left in
+    walk-ends (image (a .n) (a .m) (a .after .now) (a .tail .now)) (a .start .0) (a .marks .now) (a .events .now) f z (c .before .before .before .before .search-vertex .ensures [] (a .marks .now) (a .events .now) (walk-begins (image (a .n) (a .m) (a .after .now) (a .tail .now)) (a .start .0) (a .marks .now) (a .events .now) f z (c .before .before .before .before .before .before .before .before .before .clear .ensures)))
+
+pub dfs-recursive-spec : {M : Type 1} → statement M
+dfs-recursive-spec =
+    tie.close
+    (tie.spec
+    walk-number-requires
+    refused-requires
+    same-length
+    same-length-2
+    returns
+    add-clear
+    clear-requires
+    search-vertex-requires
+    same-length-3
+    same-length-4
+    returns-2)
