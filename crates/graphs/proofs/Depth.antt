@@ -13,7 +13,7 @@ use Rattle.lists.specs.Counts.{bump, countIn, sumOf}
 use Rattle.lists.proofs.Members.{mem-nil, each-cons, mem-left, mem-append, memb-true, memb-false, nodup-left, nodup-apart}
 use Rattle.lists.proofs.Counts.{count-sum, sum-same}
 use Rattle.graphs.specs.Graph.{Graph, Closed, Leads, stays, Reached, met}
-use Rattle.graphs.specs.Events.{event, label, advance-tree, retreat-tree, scan, History, _▸_, known, labelled, scanned, traversed}
+use Rattle.graphs.specs.Events.{event, label, advance-tree, retreat-tree, scan, traverse, History, _▸_, known, labelled, scanned, traversed, count}
 use Rattle.graphs.specs.Depth.{Searches, searches, Traverses, none, tree, nontree, DepthFirst}
 use Rattle.graphs.specs.Search.{recorder, cross, walkEdges, search, depthFirst}
 use Rattle.graphs.specs.Claims.{Ready, DepthClaim, DepthFirstClaim}
@@ -66,6 +66,23 @@ OnlyReached G before start h = (x : ℕ) → Mem x (labelled h) → Leads G befo
 
 only-reached : (G : Graph) (before : List ℕ) (start : ℕ) → Keeps G before start (OnlyReached G before start)
 only-reached G before start = record { labels = λ u h l a. each-cons (Leads G before start) u (labelled h) l a; advances = λ u r h l n a. a; retreats = λ u r h a. a; passes = λ u r h a. a; scans = λ u h a. a }
+
+-- ---- labels, scans and tree advances
+-- From h to i as many vertices were labelled as tree edges were advanced along, or so many more; each was scanned.
+record Paired (more : ℕ) (h i : History) : Type 0 where
+  labels : count label i + count advance-tree h ≡ more + (count label h + count advance-tree i)
+  scans : count scan i + count label h ≡ count scan h + count label i
+  still : count traverse i ≡ count traverse h
+
+module _ (G : Graph) (before : List ℕ) where
+  mutual
+    search-pairs : {u : ℕ} {h i : History} → Searches G before u h i → Paired 1 h i
+    search-pairs (searches t) = let p = traverse-pairs t in omega arith
+
+    traverse-pairs : {u : ℕ} {rs : List ℕ} {h i : History} → Traverses G before u rs h i → Paired 0 h i
+    traverse-pairs none = omega arith
+    traverse-pairs (tree n s t) = let p = search-pairs s in let q = traverse-pairs t in omega arith
+    traverse-pairs (nontree m t) = let q = traverse-pairs t in omega arith
 
 -- ---- the claim
 module _ (G : Graph) (before : List ℕ) (start : ℕ) (R : Ready G before start) where
@@ -131,6 +148,7 @@ module _ (G : Graph) (before : List ℕ) (start : ℕ) (R : Ready G before start
   pub depth-claim : DepthClaim G before start whole
   depth-claim =
       let b = depth-balance G before (λ y. 0) (λ y. 0) start in
+      let p = search-pairs G before depth-relates in
       record {
         one = λ h. (λ d. one-search d depth-relates, λ e. subst (DepthFirst G before start) (sym e) depth-relates);
         fuel = depth-fuel;
@@ -138,6 +156,9 @@ module _ (G : Graph) (before : List ℕ) (start : ℕ) (R : Ready G before start
         advances = omega (arith, b .advances);
         tree-pairs = omega (arith, b .trees);
         nontree-pairs = omega (arith, b .nontrees);
+        tree-labels = omega (arith, p .labels);
+        label-scans = omega (arith, p .scans);
+        no-traverses = p .still;
       }
 
   pub depth-length : length whole ≡ 2 * (met G (labelled whole) + length (labelled whole))

@@ -7,7 +7,7 @@ use native.Mathlib.Omega.{arith}
 use lib.ListN.{length, length-reverse}
 use Rattle.lists.proofs.Members.{mem-nil}
 use Rattle.graphs.specs.Nodes.{Vertex}
-use Rattle.graphs.specs.Graph.{Graph, Reached, met}
+use Rattle.graphs.specs.Graph.{Graph, Closed, Reached, met}
 use Rattle.graphs.specs.Events.{Event, event, History, words, labelled}
 use Rattle.graphs.specs.Search.{depthFirst, breadthFirst}
 use Rattle.graphs.specs.Image.{Image, graphOf}
@@ -24,9 +24,12 @@ pub words-length : (es : List Event) → length (words es) ≡ 3 * length es
 words-length [] = refl
 words-length (event k r u ∷ es) = let h = words-length es in omega arith
 
--- A search of a graph in which each edge stands once may begin, with nothing labelled before.
+-- A search may begin at any vertex, with nothing labelled before.
+pub closed-ready : {G : Graph} → Closed G → (start : ℕ) → Vertex (G .size) start → Ready G [] start
+closed-ready C start hs = record { closed = C; vertices = λ x m. absurd (mem-nil m); once = tt; start-vertex = hs; start-fresh = λ m. mem-nil m }
+
 owned-ready : {G : Graph} {m : ℕ} → Owned G m → (start : ℕ) → Vertex (G .size) start → Ready G [] start
-owned-ready O start hs = record { closed = O .target; vertices = λ x m. absurd (mem-nil m); once = tt; start-vertex = hs; start-fresh = λ m. mem-nil m }
+owned-ready O = closed-ready (O .target)
 
 pub profile-ready : (g : Image) → Sound g → (start : ℕ) → Vertex (g .n) start → Ready (graphOf g) [] start
 profile-ready g S = owned-ready (image-owned g S)

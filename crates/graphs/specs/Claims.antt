@@ -3,14 +3,14 @@ use mathlib.Core.Path.{_≡_}
 use mathlib.Core.Logic.{_↔_}
 use mathlib.Core.Bool.{true, false}
 use mathlib.Core.List.{List, [], _∷_, _++_, map, reverse}
-use Prim.Native.Nat.{ℕ, _+_, _*_, _≤_}
+use Prim.Native.Nat.{ℕ, suc, _+_, _*_, _≤_}
 use lib.ListN.{length}
 use Rattle.lists.specs.Members.{Mem, NoDup}
 use Rattle.lists.specs.Counts.{countIn, sumOf}
 use Rattle.lists.specs.Words.{at}
 use Rattle.graphs.specs.Nodes.{Vertex, Edge, isVertex}
 use Rattle.graphs.specs.Graph.{Graph, Closed, Reached, met}
-use Rattle.graphs.specs.Events.{History, _▸_, event, label, advance-tree, advance-nontree, retreat-tree, retreat-nontree, traverse, labelled, scanned, traversed, count, tally, words, renamed}
+use Rattle.graphs.specs.Events.{History, _▸_, event, label, advance-tree, advance-nontree, retreat-tree, retreat-nontree, scan, traverse, labelled, scanned, traversed, count, tally, words, renamed}
 use Rattle.graphs.specs.Depth.{DepthFirst}
 use Rattle.graphs.specs.Breadth.{BreadthFirst}
 use Rattle.graphs.specs.Search.{recorder, search, depthFirst, drain, breadthFirst}
@@ -34,7 +34,8 @@ pub record Complete (G : Graph) (before : List ℕ) (start : ℕ) (h : History) 
   pub scans : Reached G before start (scanned h)
   pub edges : (r : ℕ) → countIn r (traversed h) ≡ sumOf (λ u. countIn r (G .out u)) (labelled h)
 
--- h is the one depth-first search, whatever the fuel, if that is enough; it is complete, and each advance has its retreat.
+-- h is the one depth-first search, whatever the fuel, if that is enough; it is complete, each advance has its retreat, and each element
+-- labelled but the start has its tree advance.
 pub record DepthClaim (G : Graph) (before : List ℕ) (start : ℕ) (h : History) : Type 0 where
   pub one : (i : History) → DepthFirst G before start i ↔ (i ≡ h)
   pub fuel : (k : ℕ) → G .size ≤ k → search (recorder before) G k start [] ≡ h
@@ -42,6 +43,9 @@ pub record DepthClaim (G : Graph) (before : List ℕ) (start : ℕ) (h : History
   pub advances : count advance-tree h + count advance-nontree h ≡ met G (labelled h)
   pub tree-pairs : count advance-tree h ≡ count retreat-tree h
   pub nontree-pairs : count advance-nontree h ≡ count retreat-nontree h
+  pub tree-labels : suc (count advance-tree h) ≡ count label h
+  pub label-scans : count scan h ≡ count label h
+  pub no-traverses : count traverse h ≡ 0
 
 -- h is the one breadth-first search, whatever the fuel, if that is enough; it is complete, and scans in the order of labelling.
 pub record BreadthClaim (G : Graph) (before : List ℕ) (start : ℕ) (h : History) : Type 0 where
