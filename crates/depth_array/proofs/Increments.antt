@@ -31,9 +31,11 @@ use Rattle.images.proofs.Checks.{word-here}
 use Rattle.arrays.specs.Arrays.{arrayIn}
 use Rattle.arrays.proofs.Arrays.{read-at}
 use Rattle.walks.specs.declared.place.Place.{Place}
-use Rattle.walks.specs.Writing.{total}
+use Rattle.walks.specs.declared.depth.Progress.{Progress}
+use Rattle.walks.specs.Progress.{depthTally}
 use Rattle.walks.specs.Moves.{Underway}
-use Rattle.walks.proofs.Writing.{Emits, Puts, Starts, all-cleared}
+use Rattle.walks.proofs.Writing.{all-cleared}
+use Rattle.walks.proofs.Progress.{Emits, Puts, Starts}
 use Rattle.walks.proofs.Moves as moves
 use Rattle.depth_array.specs.Increments.{ahead, tailsLeft, lastFrom, Left, CanSearch, ArrayAt, SomeArrayAt, Ended}
 
@@ -262,7 +264,7 @@ pub record Tail (a : ArrayForm) (tails : List ℕ) (p : Place) : Type 0 where
   pub high : p .e ≤ a .m
   pub low-tail : 1 ≤ getD tails (p .e - 1) 0
   pub high-tail : getD tails (p .e - 1) 0 ≤ a .n
-  pub few : 2 + total (p .tally) ≤ 10000
+  pub few : 2 + p .progress .events ≤ 10000
 
 -- The numbers where v is left along a tree edge: its parent is a vertex, and the edge has a position.
 pub record Back (a : ArrayForm) (increments : List ℕ) (p : Place) : Type 0 where
@@ -271,7 +273,7 @@ pub record Back (a : ArrayForm) (increments : List ℕ) (p : Place) : Type 0 whe
   pub some : 1 ≤ getD increments (p .f - 1) 0
   pub low : 1 ≤ getD (a .firsts) (p .f - 1) 0 + getD increments (p .f - 1) 0 - 1
   pub high : getD (a .firsts) (p .f - 1) 0 + getD increments (p .f - 1) 0 - 1 ≤ a .m
-  pub few : 2 + total (p .tally) ≤ 10000
+  pub few : 2 + p .progress .events ≤ 10000
 
 module _ {a : ArrayForm} {start : ℕ} {marks₀ increments₀ events₀ tails marks increments events : List ℕ} {p : Place} (A : ArrayAt a start marks₀ increments₀ events₀ tails marks increments events p) where
   abbrev G : Graph
@@ -319,8 +321,8 @@ module _ {a : ArrayForm} {start : ℕ} {marks₀ increments₀ events₀ tails m
     abbrev x : ℕ
     x = getD tails (p .e - 1) 0
 
-    on : Underway G (a .n + a .m) start (A .h) (p .v) (A .done) (r ∷ ahead a (p .v) (suc (p .e))) (A .s) marks₀ events₀ marks events (p .tally)
-    on = subst (λ (l : List ℕ). Underway G (a .n + a .m) start (A .h) (p .v) (A .done) l (A .s) marks₀ events₀ marks events (p .tally)) (ahead-next a (p .v) (p .e) (within .low) more) (A .underway)
+    on : Underway G (a .n + a .m) start (A .h) (p .v) (A .done) (r ∷ ahead a (p .v) (suc (p .e))) (A .s) marks₀ events₀ marks events (p .progress)
+    on = subst (λ (l : List ℕ). Underway G (a .n + a .m) start (A .h) (p .v) (A .done) l (A .s) marks₀ events₀ marks events (p .progress)) (ahead-next a (p .v) (p .e) (within .low) more) (A .underway)
 
     leads : G .to r ≡ x
     leads =
@@ -339,11 +341,11 @@ module _ {a : ArrayForm} {start : ℕ} {marks₀ increments₀ events₀ tails m
         record { high = omega (arith, more); low-tail = target .0; high-tail = target .1; few = moves.ahead-few on }
 
     -- It leads to a labelled vertex: on to the next position.
-    module _ {t₁ events₁ t₂ events₂ : List ℕ} (one : Emits 3 (a .n + p .e) (p .v) events (p .tally) events₁ t₁) (two : Emits 4 (a .n + p .e) (p .v) events₁ t₁ events₂ t₂) where
-      pub nontree-words : total t₂ ≡ 2 + total (p .tally)
+    module _ {t₁ t₂ : Progress} {events₁ events₂ : List ℕ} (one : Emits 3 (a .n + p .e) (p .v) events (p .progress) events₁ t₁) (two : Emits 4 (a .n + p .e) (p .v) events₁ t₁ events₂ t₂) where
+      pub nontree-words : t₂ .events ≡ 2 + p .progress .events
       nontree-words = moves.pass-total on one two
 
-      pub nontree-move : getD increments (getD tails (p .e - 1) 0 - 1) 0 ≢ 0 → ArrayAt a start marks₀ increments₀ events₀ tails marks increments events₂ (record { v = p .v; e = p .e + 1; f = p .f; tally = t₂ })
+      pub nontree-move : getD increments (getD tails (p .e - 1) 0 - 1) 0 ≢ 0 → ArrayAt a start marks₀ increments₀ events₀ tails marks increments events₂ (record { v = p .v; e = p .e + 1; f = p .f; progress = t₂ })
       nontree-move ne =
           let i : History = A .h ▸ event advance-nontree r (p .v) ▸ event retreat-nontree r (p .v) in
           let m : memb x (labelled (A .h)) ≡ true = increment-some G (A .h) increments₀ x target (λ e. ne (increment-is x ∙ e)) in
@@ -365,11 +367,11 @@ module _ {a : ArrayForm} {start : ℕ} {marks₀ increments₀ events₀ tails m
           }
 
     -- It leads to an unlabelled vertex: that is labelled, and scanned next.
-    module _ {t₁ events₁ t₂ marks₂ events₂ : List ℕ} (one : Emits 2 (a .n + p .e) (p .v) events (p .tally) events₁ t₁) (two : Puts (getD tails (p .e - 1) 0) marks events₁ t₁ marks₂ events₂ t₂) where
-      pub tree-words : total t₂ ≡ 2 + total (p .tally)
+    module _ {t₁ t₂ : Progress} {events₁ marks₂ events₂ : List ℕ} (one : Emits 2 (a .n + p .e) (p .v) events (p .progress) events₁ t₁) (two : Puts (getD tails (p .e - 1) 0) marks events₁ t₁ marks₂ events₂ t₂) where
+      pub tree-words : t₂ .events ≡ 2 + p .progress .events
       tree-words = moves.tree-total on one x leads two
 
-      pub tree-move : getD increments (getD tails (p .e - 1) 0 - 1) 0 ≡ 0 → ArrayAt a start marks₀ increments₀ events₀ (set tails (p .e - 1) (p .f)) marks₂ (set (set increments (p .v - 1) (p .e - getD (a .firsts) (p .v - 1) 0 + 1)) (getD tails (p .e - 1) 0 - 1) 1) events₂ (record { v = getD tails (p .e - 1) 0; e = getD (a .firsts) (getD tails (p .e - 1) 0 - 1) 0; f = p .v; tally = t₂ })
+      pub tree-move : getD increments (getD tails (p .e - 1) 0 - 1) 0 ≡ 0 → ArrayAt a start marks₀ increments₀ events₀ (set tails (p .e - 1) (p .f)) marks₂ (set (set increments (p .v - 1) (p .e - getD (a .firsts) (p .v - 1) 0 + 1)) (getD tails (p .e - 1) 0 - 1) 1) events₂ (record { v = getD tails (p .e - 1) 0; e = getD (a .firsts) (getD tails (p .e - 1) 0 - 1) 0; f = p .v; progress = t₂ })
       tree-move zero-word =
           let i : History = A .h ▸ event advance-tree r (p .v) ▸ event label 0 x in
           let s : List Frame = frame (p .v) (A .done) r (ahead a (p .v) (suc (p .e))) ∷ A .s in
@@ -401,8 +403,8 @@ module _ {a : ArrayForm} {start : ℕ} {marks₀ increments₀ events₀ tails m
 
   -- ---- no edge ahead
   module _ (end : p .e ≡ at 0 (a .firsts) (suc (p .v))) where
-    done-at : Underway G (a .n + a .m) start (A .h) (p .v) (A .done) [] (A .s) marks₀ events₀ marks events (p .tally)
-    done-at = subst (λ (l : List ℕ). Underway G (a .n + a .m) start (A .h) (p .v) (A .done) l (A .s) marks₀ events₀ marks events (p .tally)) (ahead-none a (p .v) (p .e) end) (A .underway)
+    done-at : Underway G (a .n + a .m) start (A .h) (p .v) (A .done) [] (A .s) marks₀ events₀ marks events (p .progress)
+    done-at = subst (λ (l : List ℕ). Underway G (a .n + a .m) start (A .h) (p .v) (A .done) l (A .s) marks₀ events₀ marks events (p .progress)) (ahead-none a (p .v) (p .e) end) (A .underway)
 
     -- Back along a tree edge.
     module _ (child : p .f ≢ 0) where
@@ -412,8 +414,8 @@ module _ {a : ArrayForm} {start : ℕ} {marks₀ increments₀ events₀ tails m
       abbrev u : ℕ
       u = F .u
 
-      behind : Underway G (a .n + a .m) start (A .h) (p .v) (A .done) [] (frame u (F .du) (F .r) (F .ru) ∷ F .below) marks₀ events₀ marks events (p .tally)
-      behind = subst (λ (s : List Frame). Underway G (a .n + a .m) start (A .h) (p .v) (A .done) [] s marks₀ events₀ marks events (p .tally)) (F .is) done-at
+      behind : Underway G (a .n + a .m) start (A .h) (p .v) (A .done) [] (frame u (F .du) (F .r) (F .ru) ∷ F .below) marks₀ events₀ marks events (p .progress)
+      behind = subst (λ (s : List Frame). Underway G (a .n + a .m) start (A .h) (p .v) (A .done) [] s marks₀ events₀ marks events (p .progress)) (F .is) done-at
 
       is-parent : p .f ≡ u
       is-parent = A .trailer ∙ ap parent (F .is)
@@ -454,8 +456,8 @@ module _ {a : ArrayForm} {start : ℕ} {marks₀ increments₀ events₀ tails m
           let e = position in
           record { low-parent = omega arith; high-parent = omega arith; low = omega arith; high = omega arith; some = omega (arith, word-back); few = moves.back-few behind }
 
-      module _ {t₁ events₁ t₂ events₂ : List ℕ} (one : Emits 6 0 (p .v) events (p .tally) events₁ t₁) where
-        back-at : Emits 5 (F .r) u events₁ t₁ events₂ t₂ → ArrayAt a start marks₀ increments₀ events₀ (set tails (stand .p - 1) (p .v)) marks increments events₂ (record { v = u; e = stand .p + 1; f = getD tails (stand .p - 1) 0; tally = t₂ })
+      module _ {t₁ t₂ : Progress} {events₁ events₂ : List ℕ} (one : Emits 6 0 (p .v) events (p .progress) events₁ t₁) where
+        back-at : Emits 5 (F .r) u events₁ t₁ events₂ t₂ → ArrayAt a start marks₀ increments₀ events₀ (set tails (stand .p - 1) (p .v)) marks increments events₂ (record { v = u; e = stand .p + 1; f = getD tails (stand .p - 1) 0; progress = t₂ })
         back-at two =
             let O = stand in
             let P = behind .scene .placed in
@@ -497,27 +499,27 @@ module _ {a : ArrayForm} {start : ℕ} {marks₀ increments₀ events₀ tails m
           two-back : Emits 5 (F .r) u events₁ t₁ events₂ t₂
           two-back = subst (λ (k : ℕ). Emits 5 k u events₁ t₁ events₂ t₂) (sym (stand .named)) (subst (λ (k : ℕ × ℕ). Emits 5 (a .n + k .0) (k .1) events₁ t₁ events₂ t₂) (sym found) two)
 
-          pub back-words : total t₂ ≡ 2 + total (p .tally)
+          pub back-words : t₂ .events ≡ 2 + p .progress .events
           back-words = moves.back-total behind one two-back
 
-          pub back-move : ArrayAt a start marks₀ increments₀ events₀ (set tails (e - 1) (p .v)) marks increments events₂ (record { v = p .f; e = e + 1; f = getD tails (e - 1) 0; tally = t₂ })
-          back-move = subst (λ (k : ℕ × ℕ). ArrayAt a start marks₀ increments₀ events₀ (set tails (k .0 - 1) (p .v)) marks increments events₂ (record { v = k .1; e = k .0 + 1; f = getD tails (k .0 - 1) 0; tally = t₂ })) found (back-at two-back)
+          pub back-move : ArrayAt a start marks₀ increments₀ events₀ (set tails (e - 1) (p .v)) marks increments events₂ (record { v = p .f; e = e + 1; f = getD tails (e - 1) 0; progress = t₂ })
+          back-move = subst (λ (k : ℕ × ℕ). ArrayAt a start marks₀ increments₀ events₀ (set tails (k .0 - 1) (p .v)) marks increments events₂ (record { v = k .1; e = k .0 + 1; f = getD tails (k .0 - 1) 0; progress = t₂ })) found (back-at two-back)
 
     -- The start is being scanned.
     module _ (root : p .f ≡ 0) where
       none : A .s ≡ []
       none = unframed G start (A .s) (p .v) (A .underway .scene .placed .above) (sym (A .trailer) ∙ root)
 
-      bottom : Underway G (a .n + a .m) start (A .h) (p .v) (A .done) [] [] marks₀ events₀ marks events (p .tally)
-      bottom = subst (λ (s : List Frame). Underway G (a .n + a .m) start (A .h) (p .v) (A .done) [] s marks₀ events₀ marks events (p .tally)) none done-at
+      bottom : Underway G (a .n + a .m) start (A .h) (p .v) (A .done) [] [] marks₀ events₀ marks events (p .progress)
+      bottom = subst (λ (s : List Frame). Underway G (a .n + a .m) start (A .h) (p .v) (A .done) [] s marks₀ events₀ marks events (p .progress)) none done-at
 
       -- Its scan is the last event.
-      pub ended : {t₁ events₁ : List ℕ} → Emits 6 0 start events (p .tally) events₁ t₁ → Ended a start marks₀ increments₀ events₀ tails marks increments events₁ t₁
-      ended w = record { held = moves.end-held bottom w; increments-left = A .increments-left ∙ ap (λ (i : History). incrementLeft G i increments₀) (moves.end-is bottom); tails-left = A .bent ∙ ap (tailsLeft a) none }
+      pub ended : {o : Progress} {t₁ events₁ : List ℕ} → Emits 6 0 start events (p .progress) events₁ o → t₁ ≡ depthTally o → Ended a start marks₀ increments₀ events₀ tails marks increments events₁ t₁
+      ended w c = record { held = moves.end-held bottom w c; increments-left = A .increments-left ∙ ap (λ (i : History). incrementLeft G i increments₀) (moves.end-is bottom); tails-left = A .bent ∙ ap (tailsLeft a) none }
 
 -- ---- the start
 module _ {a : ArrayForm} {start : ℕ} {marks increments events : List ℕ} (C : CanSearch a start marks increments events) where
-  pub begun : {marks₁ increments₁ events₁ t₁ : List ℕ} → increments₁ ≡ cleared (min (a .n) (length increments)) increments → Starts (a .n + a .m) start marks events marks₁ events₁ t₁ → ArrayAt a start marks increments events (a .tails) marks₁ (set increments₁ (start - 1) 1) events₁ (record { v = start; e = getD (a .firsts) (start - 1) 0; f = 0; tally = t₁ })
+  pub begun : {marks₁ increments₁ events₁ : List ℕ} {t₁ : Progress} → increments₁ ≡ cleared (min (a .n) (length increments)) increments → Starts (a .n + a .m) start marks events marks₁ events₁ t₁ → ArrayAt a start marks increments events (a .tails) marks₁ (set increments₁ (start - 1) 1) events₁ (record { v = start; e = getD (a .firsts) (start - 1) 0; f = 0; progress = t₁ })
   begun {marks₁} {increments₁} {events₁} {t₁} c w =
       let G : Graph = arrayGraph a in
       let hs = C .start-vertex in

@@ -47,7 +47,7 @@ pub record ArrayAt (a : ArrayForm) (start : ℕ) (marks₀ increments₀ events�
   pub h : History
   pub done : List ℕ
   pub s : List Frame
-  pub underway : Underway (arrayGraph a) (a .n + a .m) start h (p .v) done (ahead a (p .v) (p .e)) s marks₀ events₀ marks events (p .tally)
+  pub underway : Underway (arrayGraph a) (a .n + a .m) start h (p .v) done (ahead a (p .v) (p .e)) s marks₀ events₀ marks events (p .progress)
   pub low : at 0 (a .firsts) (p .v) ≤ p .e
   pub high : p .e ≤ at 0 (a .firsts) (suc (p .v))
   pub trailer : p .f ≡ parent s

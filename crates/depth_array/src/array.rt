@@ -4,10 +4,11 @@ use images::Vertex;
 use walks::Place;
 use walks::Walked;
 use walks::array_walk_number;
-use walks::begin;
 use walks::clear;
-use walks::emit;
-use walks::label;
+use walks::depth::begin;
+use walks::depth::emit;
+use walks::depth::label;
+use walks::depth::tally;
 use walks::refused;
 ghost use mathlib.Core.Path.{_≡_};
 ghost use mathlib.Core.Logic.{_≢_};
@@ -17,7 +18,6 @@ ghost use Rattle.lists.specs.Words.{at};
 ghost use Rattle.graphs.specs.ArrayForm.{arrayGraph};
 ghost use Rattle.graphs.specs.Results.{marksLeft, eventsLeft, incrementLeft};
 ghost use Rattle.arrays.specs.Arrays.{unlessRefused, arrayIn};
-ghost use Rattle.walks.specs.Writing.{total};
 ghost use Rattle.walks.specs.Promises.{arrayWalkNumber, arrayWalk, tallied};
 ghost use Rattle.depth_array.specs.Increments.{ArrayAt, SomeArrayAt, CanSearch, Ended};
 
@@ -36,18 +36,18 @@ fn advance(
 ) -> Place
     requires { ⌜ SomeArrayAt n m start (now firsts) (now tails) (now marks) (now increments) (now events) p × (p .e < at 0 (now firsts) (suc (p .v))) ⌝ }
     ensures at { λ q. ⌜ ((tails₀ marks₀ increments₀ events₀ : List ℕ) → ArrayAt (arrayIn n m (now (firsts .entry)) tails₀) start marks₀ increments₀ events₀ (now (tails .entry)) (now (marks .entry)) (now (increments .entry)) (now (events .entry)) p → ArrayAt (arrayIn n m (now (firsts .entry)) tails₀) start marks₀ increments₀ events₀ (now (tails .exit)) (now (marks .exit)) (now (increments .exit)) (now (events .exit)) q) ⌝ }
-    ensures words { λ q. ⌜ total (q .tally) ≡ 2 + total (p .tally) ⌝ }
+    ensures words { λ q. ⌜ q .progress .events ≡ 2 + p .progress .events ⌝ }
 {
-    let t = p.tally;
+    let t = p.progress;
     let v = p.v;
     let e = p.e;
     let u = p.f;
-    let j = (e - 1) as usize;
+    let j = e as usize - 1;
     let x = tails[j];
-    let i = (x - 1) as usize;
+    let i = x as usize - 1;
     if increments[i] == 0 {
         let a = emit(events, 2, n + e, v, t);
-        let k = (v - 1) as usize;
+        let k = v as usize - 1;
         increments[k] = e - firsts[k] + 1;
         tails[j] = u;
         let b = label(marks, events, x, a);
@@ -56,7 +56,7 @@ fn advance(
             v: x,
             e: firsts[i],
             f: v,
-            tally: b,
+            progress: b,
         }
     } else {
         let a = emit(events, 3, n + e, v, t);
@@ -65,7 +65,7 @@ fn advance(
             v: v,
             e: e + 1,
             f: u,
-            tally: b,
+            progress: b,
         }
     }
 }
@@ -84,15 +84,15 @@ fn retreat(
 ) -> Place
     requires { ⌜ SomeArrayAt n m start (now firsts) (now tails) (now marks) (now increments) (now events) p × (p .e ≡ at 0 (now firsts) (suc (p .v))) × (p .f ≢ 0) ⌝ }
     ensures at { λ q. ⌜ ((tails₀ marks₀ increments₀ events₀ : List ℕ) → ArrayAt (arrayIn n m (now (firsts .entry)) tails₀) start marks₀ increments₀ events₀ (now (tails .entry)) (now (marks .entry)) (now (increments .entry)) (now (events .entry)) p → ArrayAt (arrayIn n m (now (firsts .entry)) tails₀) start marks₀ increments₀ events₀ (now (tails .exit)) (now (marks .entry)) (now (increments .entry)) (now (events .exit)) q) ⌝ }
-    ensures words { λ q. ⌜ total (q .tally) ≡ 2 + total (p .tally) ⌝ }
+    ensures words { λ q. ⌜ q .progress .events ≡ 2 + p .progress .events ⌝ }
 {
-    let t = p.tally;
+    let t = p.progress;
     let v = p.v;
     let u = p.f;
     let a = emit(events, 6, 0, v, t);
-    let i = (u - 1) as usize;
+    let i = u as usize - 1;
     let e = firsts[i] + increments[i] - 1;
-    let j = (e - 1) as usize;
+    let j = e as usize - 1;
     let f = tails[j];
     tails[j] = v;
     let b = emit(events, 5, n + e, u, a);
@@ -100,7 +100,7 @@ fn retreat(
         v: u,
         e: e + 1,
         f: f,
-        tally: b,
+        progress: b,
     }
 }
 
@@ -119,7 +119,7 @@ fn descend(
     requires { ⌜ SomeArrayAt n m start (now firsts) (now tails) (now marks) (now increments) (now events) p ⌝ }
     ensures at { λ q. ⌜ ((tails₀ marks₀ increments₀ events₀ : List ℕ) → ArrayAt (arrayIn n m (now (firsts .entry)) tails₀) start marks₀ increments₀ events₀ (now (tails .entry)) (now (marks .entry)) (now (increments .entry)) (now (events .entry)) p → ArrayAt (arrayIn n m (now (firsts .entry)) tails₀) start marks₀ increments₀ events₀ (now (tails .exit)) (now (marks .exit)) (now (increments .exit)) (now (events .exit)) q) ⌝ }
     ensures done { λ q. ⌜ q .e ≡ at 0 (now (firsts .entry)) (suc (q .v)) ⌝ }
-    ensures words { λ q. ⌜ total (p .tally) ≤ total (q .tally) ⌝ }
+    ensures words { λ q. ⌜ p .progress .events ≤ q .progress .events ⌝ }
 {
     let mut q = p;
     while q.e < firsts[q.v as usize] {
@@ -144,12 +144,14 @@ fn finish(
     ensures at { λ q. ⌜ ((tails₀ marks₀ increments₀ events₀ : List ℕ) → ArrayAt (arrayIn n m (now (firsts .entry)) tails₀) start marks₀ increments₀ events₀ (now (tails .entry)) (now (marks .entry)) (now (increments .entry)) (now (events .entry)) p → ArrayAt (arrayIn n m (now (firsts .entry)) tails₀) start marks₀ increments₀ events₀ (now (tails .exit)) (now (marks .exit)) (now (increments .exit)) (now (events .exit)) q) ⌝ }
     ensures done { λ q. ⌜ (q .e ≡ at 0 (now (firsts .entry)) (suc (q .v))) × (q .f ≡ 0) ⌝ }
 {
-    let mut q = descend(n, m, start, firsts, tails, marks, increments, events, p);
-    while q.f != 0 {
-        let r = retreat(n, m, start, firsts, tails, marks, increments, events, q);
-        q = descend(n, m, start, firsts, tails, marks, increments, events, r);
+    let mut q = p;
+    loop {
+        let d = descend(n, m, start, firsts, tails, marks, increments, events, q);
+        if d.f == 0 {
+            return d;
+        }
+        q = retreat(n, m, start, firsts, tails, marks, increments, events, d);
     }
-    q
 }
 
 // Clears marks and increments, and labels the start, whose increment becomes 1.
@@ -168,13 +170,13 @@ fn open(
 {
     clear(increments, n as usize);
     let t = begin(marks, events, n as usize + m as usize, start);
-    let first = (start - 1) as usize;
+    let first = start as usize - 1;
     increments[first] = 1;
     Place {
         v: start,
         e: firsts[first],
         f: 0,
-        tally: t,
+        progress: t,
     }
 }
 
@@ -194,8 +196,9 @@ fn search(
 {
     let p = open(n, m, start, firsts, tails, marks, increments, events);
     let q = finish(n, m, start, firsts, tails, marks, increments, events, p);
-    let t = q.tally;
-    emit(events, 6, 0, start, t)
+    let t = q.progress;
+    let whole = emit(events, 6, 0, start, t);
+    tally(whole)
 }
 
 // Depth-first search of an array form from start, with n increments. Refused by 1, 2, 3 (all areas), 4, 5, 6.
@@ -220,9 +223,9 @@ pub fn dfs_array(
     if k != 0 {
         return refused(k);
     }
-    let tally = search(n, m, start.0, firsts, tails, marks, increments, events);
+    let t = search(n, m, start.0, firsts, tails, marks, increments, events);
     Walked {
         number: 0,
-        tally: tally,
+        tally: t,
     }
 }

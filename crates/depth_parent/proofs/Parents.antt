@@ -27,12 +27,14 @@ use Rattle.graphs.proofs.Room.{profile-ready}
 use Rattle.graphs.proofs.Trees.{AllTrees, all-trees}
 use Rattle.walks.specs.declared.place.Place.{Place}
 use Rattle.walks.specs.Promises.{walkNumber}
-use Rattle.walks.specs.Writing.{total}
+use Rattle.walks.specs.declared.depth.Progress.{Progress}
+use Rattle.walks.specs.Progress.{depthTally}
 use Rattle.depth_parent.specs.Parents.{Entered, ParentAt, SomeParentAt, CanSearch, Ended}
 use Rattle.walks.specs.Moves.{Underway}
 use Rattle.arrays.proofs.Arrays.{read-at}
 use Rattle.walks.proofs.Reading.{target, target-is}
-use Rattle.walks.proofs.Writing.{Emits, Puts, Starts, held-test, all-cleared, begins}
+use Rattle.walks.proofs.Writing.{all-cleared, begins}
+use Rattle.walks.proofs.Progress.{Emits, Puts, Starts, written-test}
 use Rattle.walks.proofs.Moves as moves
 
 -- ---- the tree edge into a vertex
@@ -173,8 +175,8 @@ module _ {g : Image} {start : ℕ} {marks₀ parents₀ events₀ marks parents 
     N : Next (p .e) (A .rest)
     N = next-edge (p .e) (A .rest) (A .next) more
 
-    ahead : Underway (graphOf g) (g .n + g .m) start (A .h) (p .v) (A .done) (p .e ∷ N .later) (A .s) marks₀ events₀ marks events (p .tally)
-    ahead = subst (λ (l : List ℕ). Underway (graphOf g) (g .n + g .m) start (A .h) (p .v) (A .done) l (A .s) marks₀ events₀ marks events (p .tally)) (N .is) (A .underway)
+    ahead : Underway (graphOf g) (g .n + g .m) start (A .h) (p .v) (A .done) (p .e ∷ N .later) (A .s) marks₀ events₀ marks events (p .progress)
+    ahead = subst (λ (l : List ℕ). Underway (graphOf g) (g .n + g .m) start (A .h) (p .v) (A .done) l (A .s) marks₀ events₀ marks events (p .progress)) (N .is) (A .underway)
 
     is-target : to g (p .e) ≡ target g (p .e)
     is-target = target-is g (p .e)
@@ -185,20 +187,20 @@ module _ {g : Image} {start : ℕ} {marks₀ parents₀ events₀ marks parents 
         let e : Edge (g .n) (g .m) (p .e) = edge-of (A .sound) (p .v) (p .e) (A .done) (N .later) (P .vertex) (P .list) in
         record { edge = e; leads = subst (Vertex (g .n)) is-target (moves.target-vertex ahead) }
 
-    pub advance-few : 2 + total (p .tally) ≤ 10000
+    pub advance-few : 2 + p .progress .events ≤ 10000
     advance-few = moves.ahead-few ahead
 
     -- The mark of its target tells whether that is labelled.
     mark-test : eqb (getD marks (target g (p .e) - 1) 0) 0 ≡ not (memb (target g (p .e)) (labelled (A .h)))
-    mark-test = ap (λ (w : ℕ). eqb w 0) (sym (read-at marks (target g (p .e)))) ∙ held-test (A .underway .held) (target g (p .e)) (place-ahead .leads .0) (let b = place-ahead .leads in omega arith)
+    mark-test = ap (λ (w : ℕ). eqb w 0) (sym (read-at marks (target g (p .e)))) ∙ written-test (A .underway .areas) (target g (p .e)) (place-ahead .leads .0) (let b = place-ahead .leads in omega arith)
 
     -- It leads to a labelled vertex.
-    module _ {a ev : List ℕ} (one : Emits 3 (p .e) (p .v) events (p .tally) ev a) where
-      module _ {b ev′ : List ℕ} (two : Emits 4 (p .e) (p .v) ev a ev′ b) where
-        pub pass-total : total b ≡ 2 + total (p .tally)
+    module _ {a : Progress} {ev : List ℕ} (one : Emits 3 (p .e) (p .v) events (p .progress) ev a) where
+      module _ {b : Progress} {ev′ : List ℕ} (two : Emits 4 (p .e) (p .v) ev a ev′ b) where
+        pub pass-total : b .events ≡ 2 + p .progress .events
         pass-total = moves.pass-total ahead one two
 
-        pub pass-at : (getD marks (target g (p .e) - 1) 0 ≡ 0 → ⊥) → ParentAt g start marks₀ parents₀ events₀ marks parents ev′ (record { v = p .v; e = getD (g .after) (p .e - 1) 0; f = p .f; tally = b })
+        pub pass-at : (getD marks (target g (p .e) - 1) 0 ≡ 0 → ⊥) → ParentAt g start marks₀ parents₀ events₀ marks parents ev′ (record { v = p .v; e = getD (g .after) (p .e - 1) 0; f = p .f; progress = b })
         pass-at ne =
             let P = ahead .scene .placed in
             let i : History = A .h ▸ event advance-nontree (p .e) (p .v) ▸ event retreat-nontree (p .e) (p .v) in
@@ -218,12 +220,12 @@ module _ {g : Image} {start : ℕ} {marks₀ parents₀ events₀ marks parents 
             }
 
     -- It leads to a vertex that is not labelled.
-    module _ {a ev : List ℕ} (one : Emits 2 (p .e) (p .v) events (p .tally) ev a) where
-      module _ {b mk ev′ : List ℕ} (two : Puts (target g (p .e)) marks ev a mk ev′ b) where
-        pub tree-total : total b ≡ 2 + total (p .tally)
+    module _ {a : Progress} {ev : List ℕ} (one : Emits 2 (p .e) (p .v) events (p .progress) ev a) where
+      module _ {b : Progress} {mk ev′ : List ℕ} (two : Puts (target g (p .e)) marks ev a mk ev′ b) where
+        pub tree-total : b .events ≡ 2 + p .progress .events
         tree-total = moves.tree-total ahead one (target g (p .e)) is-target two
 
-        pub tree-at : getD marks (target g (p .e) - 1) 0 ≡ 0 → ParentAt g start marks₀ parents₀ events₀ mk (set parents (target g (p .e) - 1) (p .f)) ev′ (record { v = target g (p .e); e = getD (g .after) (target g (p .e) - 1) 0; f = p .e; tally = b })
+        pub tree-at : getD marks (target g (p .e) - 1) 0 ≡ 0 → ParentAt g start marks₀ parents₀ events₀ mk (set parents (target g (p .e) - 1) (p .f)) ev′ (record { v = target g (p .e); e = getD (g .after) (target g (p .e) - 1) 0; f = p .e; progress = b })
         unfolding put
         tree-at z =
             let G : Graph = graphOf g in
@@ -252,10 +254,10 @@ module _ {g : Image} {start : ℕ} {marks₀ parents₀ events₀ marks parents 
 
   -- No edge is ahead.
   module _ (none : p .e ≡ 0) where
-    done-at : Underway (graphOf g) (g .n + g .m) start (A .h) (p .v) (A .done) [] (A .s) marks₀ events₀ marks events (p .tally)
+    done-at : Underway (graphOf g) (g .n + g .m) start (A .h) (p .v) (A .done) [] (A .s) marks₀ events₀ marks events (p .progress)
     done-at = go (A .rest) (A .next) (A .underway)
       where
-        go : (rest : List ℕ) → p .e ≡ head0 rest → Underway (graphOf g) (g .n + g .m) start (A .h) (p .v) (A .done) rest (A .s) marks₀ events₀ marks events (p .tally) → Underway (graphOf g) (g .n + g .m) start (A .h) (p .v) (A .done) [] (A .s) marks₀ events₀ marks events (p .tally)
+        go : (rest : List ℕ) → p .e ≡ head0 rest → Underway (graphOf g) (g .n + g .m) start (A .h) (p .v) (A .done) rest (A .s) marks₀ events₀ marks events (p .progress) → Underway (graphOf g) (g .n + g .m) start (A .h) (p .v) (A .done) [] (A .s) marks₀ events₀ marks events (p .progress)
         go [] q U = U
         go (y ∷ l) q U = absurd (let e = edge-of (A .sound) (p .v) y (A .done) l (U .scene .placed .vertex) (U .scene .placed .list) in let k : p .e ≡ y = q in omega arith)
 
@@ -268,13 +270,13 @@ module _ {g : Image} {start : ℕ} {marks₀ parents₀ events₀ marks parents 
       abbrev pub back : ℕ
       back = top .vertex
 
-      behind : Underway (graphOf g) (g .n + g .m) start (A .h) (p .v) (A .done) [] (frame back (top .passed) (p .f) (top .ahead) ∷ top .below) marks₀ events₀ marks events (p .tally)
-      behind = subst (λ (s : List Frame). Underway (graphOf g) (g .n + g .m) start (A .h) (p .v) (A .done) [] s marks₀ events₀ marks events (p .tally)) (top .is) done-at
+      behind : Underway (graphOf g) (g .n + g .m) start (A .h) (p .v) (A .done) [] (frame back (top .passed) (p .f) (top .ahead) ∷ top .below) marks₀ events₀ marks events (p .progress)
+      behind = subst (λ (s : List Frame). Underway (graphOf g) (g .n + g .m) start (A .h) (p .v) (A .done) [] s marks₀ events₀ marks events (p .progress)) (top .is) done-at
 
       entered-back : Entered (graphOf g) (A .h) (frame back (top .passed) (p .f) (top .ahead) ∷ top .below) (p .v)
       entered-back = subst (λ (s : List Frame). Entered (graphOf g) (A .h) s (p .v)) (top .is) (A .entered)
 
-      pub retreat-few : 2 + total (p .tally) ≤ 10000
+      pub retreat-few : 2 + p .progress .events ≤ 10000
       retreat-few = moves.back-few behind
 
       pub retreat-edge : Edge (g .n) (g .m) (p .f)
@@ -307,15 +309,15 @@ module _ {g : Image} {start : ℕ} {marks₀ parents₀ events₀ marks parents 
             go [] n a = absurd (n refl)
             go (frame u du r ru ∷ s) n a = a .0
 
-      module _ {a ev : List ℕ} (one : Emits 6 0 (p .v) events (p .tally) ev a) where
-        module _ (u : ℕ) {b ev′ : List ℕ} (two : Emits 5 (p .f) u ev a ev′ b) (is : u ≡ back) where
+      module _ {a : Progress} {ev : List ℕ} (one : Emits 6 0 (p .v) events (p .progress) ev a) where
+        module _ (u : ℕ) {b : Progress} {ev′ : List ℕ} (two : Emits 5 (p .f) u ev a ev′ b) (is : u ≡ back) where
           two-back : Emits 5 (p .f) back ev a ev′ b
           two-back = subst (λ (y : ℕ). Emits 5 (p .f) y ev a ev′ b) is two
 
-          pub retreat-total : total b ≡ 2 + total (p .tally)
+          pub retreat-total : b .events ≡ 2 + p .progress .events
           retreat-total = moves.back-total behind one two-back
 
-          pub retreat-at : ParentAt g start marks₀ parents₀ events₀ marks parents ev′ (record { v = u; e = getD (g .after) (p .f - 1) 0; f = getD parents (p .v - 1) 0; tally = b })
+          pub retreat-at : ParentAt g start marks₀ parents₀ events₀ marks parents ev′ (record { v = u; e = getD (g .after) (p .f - 1) 0; f = getD parents (p .v - 1) 0; progress = b })
           retreat-at =
               let G : Graph = graphOf g in
               let h : History = A .h in
@@ -337,24 +339,24 @@ module _ {g : Image} {start : ℕ} {marks₀ parents₀ events₀ marks parents 
 
     -- There is no trailer: the start is being scanned.
     module _ (nil : p .f ≡ 0) where
-      bottom : Underway (graphOf g) (g .n + g .m) start (A .h) (p .v) (A .done) [] [] marks₀ events₀ marks events (p .tally)
+      bottom : Underway (graphOf g) (g .n + g .m) start (A .h) (p .v) (A .done) [] [] marks₀ events₀ marks events (p .progress)
       bottom = go (A .s) (A .trailer) done-at
         where
-          go : (s : List Frame) → p .f ≡ entering s → Underway (graphOf g) (g .n + g .m) start (A .h) (p .v) (A .done) [] s marks₀ events₀ marks events (p .tally) → Underway (graphOf g) (g .n + g .m) start (A .h) (p .v) (A .done) [] [] marks₀ events₀ marks events (p .tally)
+          go : (s : List Frame) → p .f ≡ entering s → Underway (graphOf g) (g .n + g .m) start (A .h) (p .v) (A .done) [] s marks₀ events₀ marks events (p .progress) → Underway (graphOf g) (g .n + g .m) start (A .h) (p .v) (A .done) [] [] marks₀ events₀ marks events (p .progress)
           go [] q U = U
           go (frame u du r ru ∷ s) q U = absurd (let a = U .scene .placed .above in let e = edge-of (A .sound) u r du ru (a .1) (a .2) in let k : p .f ≡ r = q in omega arith)
 
       -- The scan of the start is the last event.
-      pub search-ends : {t ev : List ℕ} → Emits 6 0 start events (p .tally) ev t → Ended g start marks₀ parents₀ events₀ marks parents ev t
-      search-ends w = record { held = moves.end-held bottom w; parents-left = A .parents-left ∙ ap (λ (i : History). parentLeft (graphOf g) i parents₀) (moves.end-is bottom) }
+      pub search-ends : {o : Progress} {t ev : List ℕ} → Emits 6 0 start events (p .progress) ev o → t ≡ depthTally o → Ended g start marks₀ parents₀ events₀ marks parents ev t
+      search-ends w c = record { held = moves.end-held bottom w c; parents-left = A .parents-left ∙ ap (λ (i : History). parentLeft (graphOf g) i parents₀) (moves.end-is bottom) }
 
 -- ---- the beginning
 module _ {g : Image} {start : ℕ} {marks₀ parents₀ events₀ : List ℕ} (C : CanSearch g start marks₀ parents₀ events₀) where
   ready : Ready (graphOf g) [] start
   ready = profile-ready g (C .sound) start (C .start-vertex)
 
-  pub open-at : {marks parents events t : List ℕ} → parents ≡ cleared (min (g .n) (length parents₀)) parents₀ → Starts (g .n + g .m) start marks₀ events₀ marks events t
-      → ParentAt g start marks₀ parents₀ events₀ marks parents events (record { v = start; e = getD (g .after) (start - 1) 0; f = 0; tally = t })
+  pub open-at : {marks parents events : List ℕ} {t : Progress} → parents ≡ cleared (min (g .n) (length parents₀)) parents₀ → Starts (g .n + g .m) start marks₀ events₀ marks events t
+      → ParentAt g start marks₀ parents₀ events₀ marks parents events (record { v = start; e = getD (g .after) (start - 1) 0; f = 0; progress = t })
   open-at c w = record {
     sound = C .sound;
     long = C .long;

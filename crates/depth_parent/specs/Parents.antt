@@ -28,7 +28,7 @@ pub record ParentAt (g : Image) (start : ℕ) (marks₀ parents₀ events₀ mar
   pub done : List ℕ
   pub rest : List ℕ
   pub s : List Frame
-  pub underway : Underway (graphOf g) (g .n + g .m) start h (p .v) done rest s marks₀ events₀ marks events (p .tally)
+  pub underway : Underway (graphOf g) (g .n + g .m) start h (p .v) done rest s marks₀ events₀ marks events (p .progress)
   pub entered : Entered (graphOf g) h s (p .v)
   pub parents-left : parents ≡ parentLeft (graphOf g) h parents₀
   pub next : p .e ≡ head0 rest

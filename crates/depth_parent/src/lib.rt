@@ -6,10 +6,11 @@
 use images::Vertex;
 use walks::Place;
 use walks::Walked;
-use walks::begin;
 use walks::clear;
-use walks::emit;
-use walks::label;
+use walks::depth::begin;
+use walks::depth::emit;
+use walks::depth::label;
+use walks::depth::tally;
 use walks::refused;
 use walks::walk_number;
 ghost use mathlib.Core.Path.{_≡_};
@@ -21,7 +22,6 @@ ghost use Rattle.graphs.specs.Refusals.{lent};
 ghost use Rattle.graphs.specs.Results.{marksLeft, eventsLeft, parentLeft};
 ghost use Rattle.images.specs.Checking.{image};
 ghost use Rattle.arrays.specs.Arrays.{unlessRefused};
-ghost use Rattle.walks.specs.Writing.{total};
 ghost use Rattle.walks.specs.Promises.{walkNumber, depthWalk, tallied};
 ghost use Rattle.depth_parent.specs.Parents.{ParentAt, SomeParentAt, CanSearch, Ended};
 
@@ -39,15 +39,15 @@ fn advance(
 ) -> Place
     requires { ⌜ SomeParentAt (image n m (now after) (now tail)) start (now marks) (now parents) (now events) p × (p .e ≢ 0) ⌝ }
     ensures at { λ q. ⌜ ((marks₀ parents₀ events₀ : List ℕ) → ParentAt (image n m (now (after .entry)) (now (tail .entry))) start marks₀ parents₀ events₀ (now (marks .entry)) (now (parents .entry)) (now (events .entry)) p → ParentAt (image n m (now (after .entry)) (now (tail .entry))) start marks₀ parents₀ events₀ (now (marks .exit)) (now (parents .exit)) (now (events .exit)) q) ⌝ }
-    ensures words { λ q. ⌜ total (q .tally) ≡ 2 + total (p .tally) ⌝ }
+    ensures words { λ q. ⌜ q .progress .events ≡ 2 + p .progress .events ⌝ }
 {
-    let t = p.tally;
+    let t = p.progress;
     let v = p.v;
     let e = p.e;
     let f = p.f;
-    let j = (e - n - 1) as usize;
+    let j = e as usize - n as usize - 1;
     let x = tail[j];
-    let i = (x - 1) as usize;
+    let i = x as usize - 1;
     if marks[i] == 0 {
         let a = emit(events, 2, e, v, t);
         let b = label(marks, events, x, a);
@@ -56,17 +56,17 @@ fn advance(
             v: x,
             e: after[i],
             f: e,
-            tally: b,
+            progress: b,
         }
     } else {
         let a = emit(events, 3, e, v, t);
         let b = emit(events, 4, e, v, a);
-        let k = (e - 1) as usize;
+        let k = e as usize - 1;
         Place {
             v: v,
             e: after[k],
             f: f,
-            tally: b,
+            progress: b,
         }
     }
 }
@@ -85,26 +85,26 @@ fn retreat(
 ) -> Place
     requires { ⌜ SomeParentAt (image n m (now after) (now tail)) start (now marks) (now parents) (now events) p × (p .e ≡ 0) × (p .f ≢ 0) ⌝ }
     ensures at { λ q. ⌜ ((marks₀ parents₀ events₀ : List ℕ) → ParentAt (image n m (now (after .entry)) (now (tail .entry))) start marks₀ parents₀ events₀ (now (marks .entry)) (now (parents .entry)) (now (events .entry)) p → ParentAt (image n m (now (after .entry)) (now (tail .entry))) start marks₀ parents₀ events₀ (now (marks .entry)) (now (parents .entry)) (now (events .exit)) q) ⌝ }
-    ensures words { λ q. ⌜ total (q .tally) ≡ 2 + total (p .tally) ⌝ }
+    ensures words { λ q. ⌜ q .progress .events ≡ 2 + p .progress .events ⌝ }
 {
-    let t = p.tally;
+    let t = p.progress;
     let v = p.v;
     let e = p.f;
     let a = emit(events, 6, 0, v, t);
-    let i = (v - 1) as usize;
+    let i = v as usize - 1;
     let f = parents[i];
     let mut u = start;
     if f != 0 {
-        let j = (f - n - 1) as usize;
+        let j = f as usize - n as usize - 1;
         u = tail[j];
     }
     let b = emit(events, 5, e, u, a);
-    let k = (e - 1) as usize;
+    let k = e as usize - 1;
     Place {
         v: u,
         e: after[k],
         f: f,
-        tally: b,
+        progress: b,
     }
 }
 
@@ -123,7 +123,7 @@ fn descend(
     requires { ⌜ SomeParentAt (image n m (now after) (now tail)) start (now marks) (now parents) (now events) p ⌝ }
     ensures at { λ q. ⌜ ((marks₀ parents₀ events₀ : List ℕ) → ParentAt (image n m (now (after .entry)) (now (tail .entry))) start marks₀ parents₀ events₀ (now (marks .entry)) (now (parents .entry)) (now (events .entry)) p → ParentAt (image n m (now (after .entry)) (now (tail .entry))) start marks₀ parents₀ events₀ (now (marks .exit)) (now (parents .exit)) (now (events .exit)) q) ⌝ }
     ensures done { λ q. ⌜ q .e ≡ 0 ⌝ }
-    ensures words { λ q. ⌜ total (p .tally) ≤ total (q .tally) ⌝ }
+    ensures words { λ q. ⌜ p .progress .events ≤ q .progress .events ⌝ }
 {
     let mut q = p;
     while q.e != 0 {
@@ -148,12 +148,14 @@ fn finish(
     ensures at { λ q. ⌜ ((marks₀ parents₀ events₀ : List ℕ) → ParentAt (image n m (now (after .entry)) (now (tail .entry))) start marks₀ parents₀ events₀ (now (marks .entry)) (now (parents .entry)) (now (events .entry)) p → ParentAt (image n m (now (after .entry)) (now (tail .entry))) start marks₀ parents₀ events₀ (now (marks .exit)) (now (parents .exit)) (now (events .exit)) q) ⌝ }
     ensures done { λ q. ⌜ (q .e ≡ 0) × (q .f ≡ 0) ⌝ }
 {
-    let mut q = descend(n, m, start, after, tail, marks, parents, events, p);
-    while q.f != 0 {
-        let r = retreat(n, m, start, after, tail, marks, parents, events, q);
-        q = descend(n, m, start, after, tail, marks, parents, events, r);
+    let mut q = p;
+    loop {
+        let d = descend(n, m, start, after, tail, marks, parents, events, q);
+        if d.f == 0 {
+            return d;
+        }
+        q = retreat(n, m, start, after, tail, marks, parents, events, d);
     }
-    q
 }
 
 // Clears marks and parents, and labels the start.
@@ -172,12 +174,12 @@ fn open(
 {
     clear(parents, n as usize);
     let t = begin(marks, events, n as usize + m as usize, start);
-    let i = (start - 1) as usize;
+    let i = start as usize - 1;
     Place {
         v: start,
         e: after[i],
         f: 0,
-        tally: t,
+        progress: t,
     }
 }
 
@@ -197,8 +199,9 @@ fn search(
 {
     let p = open(n, m, start, after, tail, marks, parents, events);
     let q = finish(n, m, start, after, tail, marks, parents, events, p);
-    let t = q.tally;
-    emit(events, 6, 0, start, t)
+    let t = q.progress;
+    let whole = emit(events, 6, 0, start, t);
+    tally(whole)
 }
 
 // Depth-first search of a linked image from start, with n parent words. Refused by 1, 2, 3 (all areas), 4, 5, 6, 7.
@@ -223,9 +226,9 @@ pub fn dfs_parent(
     if k != 0 {
         return refused(k);
     }
-    let tally = search(n, m, start.0, after, tail, marks, parents, events);
+    let t = search(n, m, start.0, after, tail, marks, parents, events);
     Walked {
         number: 0,
-        tally: tally,
+        tally: t,
     }
 }

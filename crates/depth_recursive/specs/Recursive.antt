@@ -9,7 +9,9 @@ use Rattle.graphs.specs.Image.{Image, edgesOf, to, graphOf}
 use Rattle.graphs.proofs.Labels.{Labels}
 use Rattle.graphs.proofs.Sound.{Sound}
 use Rattle.graphs.proofs.Places.{deep}
-use Rattle.walks.specs.Writing.{Held, Roomy}
+use Rattle.walks.specs.declared.depth.Progress.{Progress}
+use Rattle.walks.specs.Writing.{Roomy}
+use Rattle.walks.specs.Progress.{Written}
 
 -- The events once u is searched, from h on.
 abbrev pub searched : Image → ℕ → History → History
@@ -20,30 +22,30 @@ abbrev pub crossed : Image → ℕ → ℕ → History → History
 crossed g r u h = cross (recorder []) (graphOf g) (deep (graphOf g)) u r (memb (to g r) (labelled h)) h
 
 -- u is not labelled after h, and there is room for the events of its search.
-pub record Searching (g : Image) (u : ℕ) (h : History) (marks₀ events₀ marks events t : List ℕ) : Type 0 where
+pub record Searching (g : Image) (u : ℕ) (h : History) (marks₀ events₀ marks events : List ℕ) (t : Progress) : Type 0 where
   pub sound : Sound g
   pub vertex : Vertex (g .n) u
   pub fresh : Mem u (labelled h) → ⊥
   pub labels : Labels (g .n) (labelled h)
-  pub held : Held (g .n + g .m) h marks₀ events₀ marks events t
+  pub areas : Written (g .n + g .m) h marks₀ events₀ marks events t
   pub roomy : Roomy (g .n + g .m) (searched g u h) marks₀ events₀
 
-pub record CanSearch (g : Image) (u : ℕ) (marks events t : List ℕ) : Type 0 where
+pub record CanSearch (g : Image) (u : ℕ) (marks events : List ℕ) (t : Progress) : Type 0 where
   pub h : History
   pub marks₀ : List ℕ
   pub events₀ : List ℕ
   pub searching : Searching g u h marks₀ events₀ marks events t
 
 -- r stands on the list of u, and there is room for its events.
-pub record Traversing (g : Image) (r u : ℕ) (h : History) (marks₀ events₀ marks events t : List ℕ) : Type 0 where
+pub record Traversing (g : Image) (r u : ℕ) (h : History) (marks₀ events₀ marks events : List ℕ) (t : Progress) : Type 0 where
   pub sound : Sound g
   pub vertex : Vertex (g .n) u
   pub listed : Mem r (edgesOf g u)
   pub labels : Labels (g .n) (labelled h)
-  pub held : Held (g .n + g .m) h marks₀ events₀ marks events t
+  pub areas : Written (g .n + g .m) h marks₀ events₀ marks events t
   pub roomy : Roomy (g .n + g .m) (crossed g r u h) marks₀ events₀
 
-pub record CanTraverse (g : Image) (r u : ℕ) (marks events t : List ℕ) : Type 0 where
+pub record CanTraverse (g : Image) (r u : ℕ) (marks events : List ℕ) (t : Progress) : Type 0 where
   pub h : History
   pub marks₀ : List ℕ
   pub events₀ : List ℕ

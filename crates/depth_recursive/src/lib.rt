@@ -7,8 +7,10 @@ use images::Edge;
 use images::Vertex;
 use walks::Walked;
 use walks::clear;
-use walks::emit;
-use walks::label;
+use walks::depth::Progress;
+use walks::depth::emit;
+use walks::depth::label;
+use walks::depth::tally;
 use walks::refused;
 use walks::walk_number;
 ghost use mathlib.Core.Path.{_≡_};
@@ -19,7 +21,7 @@ ghost use Rattle.graphs.specs.Results.{marksLeft, eventsLeft};
 ghost use Rattle.images.specs.Checking.{image};
 ghost use Rattle.arrays.specs.Arrays.{unlessRefused};
 ghost use Rattle.walks.specs.Promises.{walkNumber, depthWalk, tallied};
-ghost use Rattle.walks.specs.Writing.{Held};
+ghost use Rattle.walks.specs.Progress.{Written};
 ghost use Rattle.depth_recursive.specs.Recursive.{CanSearch, Searching, searched, CanTraverse, Traversing, crossed};
 
 // Labels u, traverses each edge on its list, and ends the scan of u.
@@ -31,19 +33,19 @@ fn search_vertex(
     tail: &[u16],
     marks: &mut [u16],
     events: &mut [u16],
-    tally: [u32; 7],
-) -> [u32; 7]
-    requires { ⌜ CanSearch (image n m (now after) (now tail)) (u .0) (now marks) (now events) tally ⌝ }
-    ensures { λ t. ⌜ ((h : History) (marks₀ events₀ : List ℕ) → Searching (image n m (now (after .entry)) (now (tail .entry))) (u .0) h marks₀ events₀ (now (marks .entry)) (now (events .entry)) tally → Held (n + m) (searched (image n m (now (after .entry)) (now (tail .entry))) (u .0) h) marks₀ events₀ (now (marks .exit)) (now (events .exit)) t) ⌝ }
+    progress: Progress,
+) -> Progress
+    requires { ⌜ CanSearch (image n m (now after) (now tail)) (u .0) (now marks) (now events) progress ⌝ }
+    ensures { λ t. ⌜ ((h : History) (marks₀ events₀ : List ℕ) → Searching (image n m (now (after .entry)) (now (tail .entry))) (u .0) h marks₀ events₀ (now (marks .entry)) (now (events .entry)) progress → Written (n + m) (searched (image n m (now (after .entry)) (now (tail .entry))) (u .0) h) marks₀ events₀ (now (marks .exit)) (now (events .exit)) t) ⌝ }
 {
     let v = u.0;
-    let mut t = label(marks, events, v, tally);
-    let i = (v - 1) as usize;
+    let mut t = label(marks, events, v, progress);
+    let i = v as usize - 1;
     let mut r = after[i];
     while r != 0 {
         let s = traverse_edge(n, m, Edge(r), u, after, tail, marks, events, t);
         t = s;
-        let j = (r - 1) as usize;
+        let j = r as usize - 1;
         r = after[j];
     }
     emit(events, 6, 0, v, t)
@@ -59,22 +61,22 @@ fn traverse_edge(
     tail: &[u16],
     marks: &mut [u16],
     events: &mut [u16],
-    tally: [u32; 7],
-) -> [u32; 7]
-    requires { ⌜ CanTraverse (image n m (now after) (now tail)) (r .0) (u .0) (now marks) (now events) tally ⌝ }
-    ensures { λ t. ⌜ ((h : History) (marks₀ events₀ : List ℕ) → Traversing (image n m (now (after .entry)) (now (tail .entry))) (r .0) (u .0) h marks₀ events₀ (now (marks .entry)) (now (events .entry)) tally → Held (n + m) (crossed (image n m (now (after .entry)) (now (tail .entry))) (r .0) (u .0) h) marks₀ events₀ (now (marks .exit)) (now (events .exit)) t) ⌝ }
+    progress: Progress,
+) -> Progress
+    requires { ⌜ CanTraverse (image n m (now after) (now tail)) (r .0) (u .0) (now marks) (now events) progress ⌝ }
+    ensures { λ t. ⌜ ((h : History) (marks₀ events₀ : List ℕ) → Traversing (image n m (now (after .entry)) (now (tail .entry))) (r .0) (u .0) h marks₀ events₀ (now (marks .entry)) (now (events .entry)) progress → Written (n + m) (crossed (image n m (now (after .entry)) (now (tail .entry))) (r .0) (u .0) h) marks₀ events₀ (now (marks .exit)) (now (events .exit)) t) ⌝ }
 {
     let e = r.0;
     let from = u.0;
-    let j = (e - n - 1) as usize;
+    let j = e as usize - n as usize - 1;
     let x = tail[j];
-    let i = (x - 1) as usize;
+    let i = x as usize - 1;
     if marks[i] == 0 {
-        let a = emit(events, 2, e, from, tally);
+        let a = emit(events, 2, e, from, progress);
         let b = search_vertex(n, m, Vertex(x), after, tail, marks, events, a);
         emit(events, 5, e, from, b)
     } else {
-        let a = emit(events, 3, e, from, tally);
+        let a = emit(events, 3, e, from, progress);
         emit(events, 4, e, from, a)
     }
 }
@@ -99,9 +101,14 @@ pub fn dfs_recursive(
         return refused(k);
     }
     clear(marks, n as usize + m as usize);
-    let tally = search_vertex(n, m, start, after, tail, marks, events, [0; 7]);
+    let none = Progress {
+        events: 0,
+        labels: 0,
+    };
+    let p = search_vertex(n, m, start, after, tail, marks, events, none);
+    let t = tally(p);
     Walked {
         number: 0,
-        tally: tally,
+        tally: t,
     }
 }

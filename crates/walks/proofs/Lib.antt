@@ -2,6 +2,7 @@
 pub mod Storing
 pub mod Reading
 pub mod Writing
+pub mod Progress
 pub mod Numbers
 pub mod ArrayBegins
 pub mod Moves

@@ -60,7 +60,7 @@ room-is k t a h =
     let z = both (leb (total t) 10000) (leb (3 * total t + 3) a) (y .1) in
     record { low = leb-true 1 k (x .0); high = leb-true k 7 (y .0); few = leb-true (total t) 10000 (z .0); room = leb-true (3 * total t + 3) a (z .1) }
 
-and-none : (b : Bool) → (b && false) ≡ false
+pub and-none : (b : Bool) → (b && false) ≡ false
 and-none true = refl
 and-none false = refl
 

@@ -16,7 +16,7 @@ use Rattle.lists.proofs.Tests.{and-true}
 use Rattle.lists.proofs.Words.{length-cleared, cleared-past, cleared-filled, length-overlay, pasted-front, pasted-pasted}
 use Rattle.graphs.specs.Nodes.{Vertex}
 use Rattle.graphs.specs.Events.{Kind, Event, event, label, advance-tree, advance-nontree, retreat-tree, retreat-nontree, scan, traverse, code, same, words, History, _▸_, labelled, count, tally}
-use Rattle.graphs.specs.Results.{eventsLeft}
+use Rattle.graphs.specs.Results.{eventsLeft, marksLeft}
 use Rattle.graphs.specs.Image.{Image}
 use Rattle.graphs.specs.Refusals.{Lent, lent, short}
 use Rattle.graphs.proofs.Refusals.{long}
@@ -38,7 +38,7 @@ words-next h j r u = ap words (reverseAux-eq h (event j r u ∷ [])) ∙ words-a
 pub words-many : (h : History) → length (words (reverse h)) ≡ 3 * length h
 words-many h = omega (arith, words-length (reverse h), length-reverse h)
 
-events-next : (h : History) (area : List ℕ) (j : Kind) (r u : ℕ) → 3 * length h ≤ length area → pasted (3 * length h) (code j ∷ r ∷ u ∷ []) (eventsLeft h area) ≡ eventsLeft (h ▸ event j r u) area
+pub events-next : (h : History) (area : List ℕ) (j : Kind) (r u : ℕ) → 3 * length h ≤ length area → pasted (3 * length h) (code j ∷ r ∷ u ∷ []) (eventsLeft h area) ≡ eventsLeft (h ▸ event j r u) area
 events-next h area j r u p =
     let ws : List ℕ = words (reverse h) in
     let vs : List ℕ = code j ∷ r ∷ u ∷ [] in
@@ -70,6 +70,18 @@ code-low retreat-tree = (omega arith, omega arith)
 code-low scan = (omega arith, omega arith)
 code-low traverse = (omega arith, omega arith)
 
+-- ---- areas that are those of the events so far
+-- A mark of 0 is an unlabelled node.
+pub marked-test : (k : ℕ) (h : History) (marks₀ marks : List ℕ) → marks ≡ marksLeft k h marks₀ → (x : ℕ) → 0 < x → x ≤ k → eqb (at 0 marks x) 0 ≡ not (memb x (labelled h))
+marked-test k h marks₀ marks e x a b = ap (λ (l : List ℕ). eqb (at 0 l x) 0) e ∙ marks-test k h marks₀ x a b
+
+-- They keep their lengths.
+pub left-lengths : (k : ℕ) (h : History) {all : History} {marks₀ events₀ marks events : List ℕ} → marks ≡ marksLeft k h marks₀ → events ≡ eventsLeft h events₀ → Roomy k all marks₀ events₀ → length h ≤ length all → (length marks ≡ length marks₀) × (length events ≡ length events₀)
+left-lengths k h {all} {marks₀} {events₀} m w R l = (
+  ap length m ∙ marks-length k h marks₀ (R .long-marks),
+  ap length w ∙ length-overlay (words (reverse h)) events₀ (omega (arith, words-many h, R .room)),
+)
+
 -- ---- what is held
 module _ {k : ℕ} {h : History} {marks₀ events₀ marks events t : List ℕ} (H : Held k h marks₀ events₀ marks events t) where
   -- As many events are tallied as there are.
@@ -82,16 +94,13 @@ module _ {k : ℕ} {h : History} {marks₀ events₀ marks events t : List ℕ} 
 
   -- A mark of 0 is an unlabelled node.
   pub held-test : (x : ℕ) → 0 < x → x ≤ k → eqb (at 0 marks x) 0 ≡ not (memb x (labelled h))
-  held-test x a b = ap (λ (l : List ℕ). eqb (at 0 l x) 0) (H .marked) ∙ marks-test k h marks₀ x a b
+  held-test x a b = marked-test k h marks₀ marks (H .marked) x a b
 
   -- With room for one event more.
   module _ {all : History} (R : Roomy k all marks₀ events₀) where
     -- The areas keep their lengths.
     pub held-lengths : length h ≤ length all → (length marks ≡ length marks₀) × (length events ≡ length events₀)
-    held-lengths l = (
-      ap length (H .marked) ∙ marks-length k h marks₀ (R .long-marks),
-      ap length (H .written) ∙ length-overlay (words (reverse h)) events₀ (omega (arith, words-many h, R .room)),
-    )
+    held-lengths l = left-lengths k h (H .marked) (H .written) R l
 
     -- One event more has room.
     pub can-emit : suc (length h) ≤ length all → (j : Kind) → hasRoom (code j) t (length events) ≡ true

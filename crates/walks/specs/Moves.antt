@@ -7,14 +7,16 @@ use Rattle.graphs.specs.Events.{History, labelled}
 use Rattle.graphs.specs.Search.{depthFirst}
 use Rattle.graphs.proofs.Places.{Frame, Scene}
 use Rattle.graphs.proofs.Trees.{AllTrees}
-use Rattle.walks.specs.Writing.{Held, Roomy}
+use Rattle.walks.specs.declared.depth.Progress.{Progress}
+use Rattle.walks.specs.Writing.{Roomy}
+use Rattle.walks.specs.Progress.{Written}
 
--- After the events h: v is being scanned, `done` passed, `rest` ahead, the frames s below; marks, events and tally are those that h leaves.
+-- After the events h: v is being scanned, `done` passed, `rest` ahead, the frames s below; marks and events are those that h leaves, and t says how far the walk has come.
 -- Every tree edge so far leaves a labelled vertex.
-pub record Underway (G : Graph) (nodes start : ℕ) (h : History) (v : ℕ) (done rest : List ℕ) (s : List Frame) (marks₀ events₀ marks events t : List ℕ) : Type 0 where
+pub record Underway (G : Graph) (nodes start : ℕ) (h : History) (v : ℕ) (done rest : List ℕ) (s : List Frame) (marks₀ events₀ marks events : List ℕ) (t : Progress) : Type 0 where
   pub closed : Closed G
   pub within : G .size ≤ nodes
   pub roomy : Roomy nodes (depthFirst G [] start) marks₀ events₀
   pub scene : Scene G start h v done rest s
   pub trees : AllTrees (λ r u. Mem u (labelled h)) h
-  pub held : Held nodes h marks₀ events₀ marks events t
+  pub areas : Written nodes h marks₀ events₀ marks events t

@@ -61,7 +61,7 @@ pub fn emit(events: &mut [u16], kind: u16, r: u16, u: u16, tally: [u32; 7]) -> [
     events[at] = kind;
     events[at + 1] = r;
     events[at + 2] = u;
-    let k = (kind - 1) as usize;
+    let k = kind as usize - 1;
     let mut t = tally;
     t[k] = t[k] + 1;
     t
@@ -82,7 +82,7 @@ pub fn label(marks: &mut [u16], events: &mut [u16], u: u16, tally: [u32; 7]) -> 
     if !has_room(1, tally, events.len()) {
         return tally;
     }
-    let i = (u - 1) as usize;
+    let i = u as usize - 1;
     marks[i] = (tally[0] + 1) as u16;
     emit(events, 1, 0, u, tally)
 }

@@ -45,11 +45,11 @@ mul-parents c = let z = c .before .before .before .before .before .before .befor
 slice-write-parents : tie.Need-slice-write-parents
 slice-write-parents c = let z = c .before .before .before .before .before .before .before .before .before .before .before .before .before .before .before .before .before .before .before .before .pre in let b = place-bounds (z .0 .is) in let e = place-ahead (z .0 .is) (z .1) in omega arith
 
-mul-t35 : tie.Need-mul-t35
-mul-t35 c = let z = c .before .before .before .before .before .before .before .before .before .before .before .before .before .before .before .before .before .before .before .before .pre in let b = place-bounds (z .0 .is) in let e = place-ahead (z .0 .is) (z .1) in omega arith
+mul-t36 : tie.Need-mul-t36
+mul-t36 c = let z = c .before .before .before .before .before .before .before .before .before .before .before .before .before .before .before .before .before .before .before .before .pre in let b = place-bounds (z .0 .is) in let e = place-ahead (z .0 .is) (z .1) in omega arith
 
-shared-slice-read-t38 : tie.Need-shared-slice-read-t38
-shared-slice-read-t38 c = let z = c .before .before .before .before .before .before .before .before .before .before .before .before .before .before .before .before .before .before .before .before .before .pre in let b = place-bounds (z .0 .is) in let e = place-ahead (z .0 .is) (z .1) in omega arith
+shared-slice-read-t39 : tie.Need-shared-slice-read-t39
+shared-slice-read-t39 c = let z = c .before .before .before .before .before .before .before .before .before .before .before .before .before .before .before .before .before .before .before .before .before .pre in let b = place-bounds (z .0 .is) in let e = place-ahead (z .0 .is) (z .1) in omega arith
 
 emit-requires-2 : tie.Need-emit-requires-2
 emit-requires-2 c κs = search needs
@@ -61,13 +61,13 @@ sub-k : tie.Need-sub-k
 sub-k c = search needs
 
 cast-k : tie.Need-cast-k
-cast-k c = search needs
+cast-k c = let z = c .before .before .before .before .before .before .before .before .before .before .before .before .before .before .before .before .before .pre in let b = place-bounds (z .0 .is) in let e = place-ahead (z .0 .is) (z .1) in omega arith
 
 mul-t44 : tie.Need-mul-t44
-mul-t44 c = search needs
+mul-t44 c = let z = c .before .before .before .before .before .before .before .before .before .before .before .before .before .before .before .before .before .pre in let b = place-bounds (z .0 .is) in let e = place-ahead (z .0 .is) (z .1) in omega arith
 
-shared-slice-read-t43 : tie.Need-shared-slice-read-t43
-shared-slice-read-t43 c = let z = c .before .before .before .before .before .before .before .before .before .before .before .before .before .before .before .before .before .before .pre in let b = place-bounds (z .0 .is) in let e = place-ahead (z .0 .is) (z .1) in omega arith
+shared-slice-read-t46 : tie.Need-shared-slice-read-t46
+shared-slice-read-t46 c = let z = c .before .before .before .before .before .before .before .before .before .before .before .before .before .before .before .before .before .before .pre in let b = place-bounds (z .0 .is) in let e = place-ahead (z .0 .is) (z .1) in omega arith
 
 same-length : tie.Need-same-length
 same-length c = search needs
@@ -90,31 +90,4 @@ returns-2 c = let z = c .before .before .before .before .before .before .before 
 pub advance-spec : {M : Type 1} → statement M
 advance-spec =
     tie.close
-    (tie.spec
-    sub-j
-    sub-j-2
-    cast-j
-    mul-x
-    shared-slice-read-x
-    sub-i
-    cast-i
-    mul-if1
-    slice-read-if1
-    emit-requires
-    label-requires
-    mul-parents
-    slice-write-parents
-    mul-t35
-    shared-slice-read-t38
-    emit-requires-2
-    emit-requires-3
-    sub-k
-    cast-k
-    mul-t44
-    shared-slice-read-t43
-    same-length
-    same-length-2
-    same-length-3
-    returns
-    same-length-4
-    returns-2)
+    (tie.spec cast-j sub-j sub-j-2 mul-x shared-slice-read-x cast-i sub-i mul-if1 slice-read-if1 emit-requires label-requires mul-parents slice-write-parents mul-t36 shared-slice-read-t39 emit-requires-2 emit-requires-3 cast-k sub-k mul-t44 shared-slice-read-t46 same-length same-length-2 same-length-3 returns same-length-4 returns-2)

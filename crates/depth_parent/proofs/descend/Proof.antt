@@ -3,16 +3,15 @@
 use Prim.Native.Nat.{_≤_, _-_}
 use native.Mathlib.Omega.{arith}
 use Rattle.images.specs.Checking.{image}
-use Rattle.walks.specs.Writing.{total}
 use Rattle.depth_parent.proofs.Parents.{Goes, advance-few, goes-some, goes-lengths, goes-then}
 use Rattle.depth_parent.proofs.descend.Statement.{statement}
 use Rattle.depth_parent.proofs.descend.Tie as tie
 
 abbrev Inv-loop : tie.InvT-loop
-Inv-loop n m start after tail marks₀ parents₀ events₀ q₀ marks parents events q = Goes (image n m after tail) start marks₀ parents₀ events₀ q₀ marks parents events q × (total (q₀ .tally) ≤ total (q .tally))
+Inv-loop n m start after tail marks₀ parents₀ events₀ q₀ marks parents events q = Goes (image n m after tail) start marks₀ parents₀ events₀ q₀ marks parents events q × (q₀ .progress .events ≤ q .progress .events)
 
 abbrev μ-loop : tie.MeasureT-loop
-μ-loop n m start after tail marks₀ parents₀ events₀ q₀ marks parents events q = 10000 - total (q .tally)
+μ-loop n m start after tail marks₀ parents₀ events₀ q₀ marks parents events q = 10000 - q .progress .events
 
 loop-holds : tie.Need-loop-holds Inv-loop μ-loop
 loop-holds c = (λ marks₀ parents₀ events₀ A. A, omega arith)

@@ -4,60 +4,44 @@ use mathlib.Core.Path.{_≡_}
 use Prim.Native.Nat.{_-_}
 use native.Mathlib.Omega.{arith}
 use Rattle.images.specs.Checking.{image}
-use Rattle.walks.specs.Writing.{total}
 use Rattle.depth_parent.proofs.Parents.{Goes, retreat-few, goes-some, goes-lengths, goes-then}
 use Rattle.depth_parent.proofs.finish.Statement.{statement}
 use Rattle.depth_parent.proofs.finish.Tie as tie
 
 abbrev Inv-loop : tie.InvT-loop
-Inv-loop n m start after tail marks₀ parents₀ events₀ q₀ marks parents events q = Goes (image n m after tail) start marks₀ parents₀ events₀ q₀ marks parents events q × (q .e ≡ 0)
+Inv-loop n m start after tail marks₀ parents₀ events₀ q₀ marks parents events q = Goes (image n m after tail) start marks₀ parents₀ events₀ q₀ marks parents events q
 
 abbrev μ-loop : tie.MeasureT-loop
-μ-loop n m start after tail marks₀ parents₀ events₀ q₀ marks parents events q = 10000 - total (q .tally)
-
-descend-requires : tie.Need-descend-requires Inv-loop μ-loop
-descend-requires c κs = c .before .before .before .before .before .before .before .before .pre
+μ-loop n m start after tail marks₀ parents₀ events₀ q₀ marks parents events q = 10000 - q .progress .events
 
 loop-holds : tie.Need-loop-holds Inv-loop μ-loop
-loop-holds c = (λ marks₀ parents₀ events₀ A. A, c .before .before .before .before .before .before .descend .ensures .1 .0)
+loop-holds c = λ marks₀ parents₀ events₀ A. A
 
-retreat-requires : tie.Need-retreat-requires Inv-loop μ-loop
-retreat-requires c κs = let l = c .before .before .before .before .before .loop .inv in (goes-some (goes-some (c .before .before .before .before .before .before .before .before .before .before .before .before .before .before .before .before .before .before .before .before .before .pre) (c .before .before .before .before .before .before .before .before .before .before .before .before .descend .ensures .0)) (l .0), l .1, c .before .before .before .if1 .taken)
-
-descend-requires-2 : tie.Need-descend-requires-2 Inv-loop μ-loop
-descend-requires-2 c κs = goes-some (goes-some (goes-some (c .before .before .before .before .before .before .before .before .before .before .before .before .before .before .before .before .before .before .before .before .before .before .before .before .before .before .before .pre) (c .before .before .before .before .before .before .before .before .before .before .before .before .before .before .before .before .before .before .descend .ensures .0)) (c .before .before .before .before .before .before .before .before .before .before .before .loop .inv .0)) (c .before .before .before .before .before .retreat .ensures .0)
-
-loop-less : tie.Need-loop-less Inv-loop μ-loop
-loop-less c = let l = c .before .before .before .before .before .before .before .before .before .before .before .before .before .before .before .before .before .before .loop .inv in let f = retreat-few (goes-some (goes-some (c .before .before .before .before .before .before .before .before .before .before .before .before .before .before .before .before .before .before .before .before .before .before .before .before .before .before .before .before .before .before .before .before .before .before .pre) (c .before .before .before .before .before .before .before .before .before .before .before .before .before .before .before .before .before .before .before .before .before .before .before .before .before .descend .ensures .0)) (l .0) .is) (l .1) (c .before .before .before .before .before .before .before .before .before .before .before .before .before .before .before .before .if1 .taken) in omega (arith, c .before .before .before .before .before .before .before .before .before .before .before .before .retreat .ensures .1, c .before .before .before .before .before .before .descend2 .ensures .1 .1)
-
-loop-again : tie.Need-loop-again Inv-loop μ-loop
-loop-again c = (goes-then (c .before .before .before .before .before .before .before .before .before .before .before .before .before .before .before .before .before .before .loop .inv .0) (goes-then (c .before .before .before .before .before .before .before .before .before .before .before .before .retreat .ensures .0) (c .before .before .before .before .before .before .descend2 .ensures .0)), c .before .before .before .before .before .before .descend2 .ensures .1 .0)
+descend-requires : tie.Need-descend-requires Inv-loop μ-loop
+descend-requires c κs = goes-some (c .before .before .before .before .before .before .before .before .before .pre) (c .before .before .before .loop .inv)
 
 same-length : tie.Need-same-length Inv-loop μ-loop
-same-length c = goes-lengths (c .before .before .before .before .before .before .before .before .before .before .before .before .before .before .before .before .before .before .pre) (goes-then (c .before .before .before .before .before .before .before .before .before .descend .ensures .0) (c .before .before .loop .inv .0)) .0
+same-length c = goes-lengths (c .before .before .before .before .before .before .before .before .before .before .before .before .before .before .before .before .before .before .pre) (goes-then (c .before .before .before .before .before .before .before .before .before .before .before .before .loop .inv) (c .before .before .before .before .before .before .before .before .descend .ensures .0)) .0
 
 same-length-2 : tie.Need-same-length-2 Inv-loop μ-loop
-same-length-2 c = goes-lengths (c .before .before .before .before .before .before .before .before .before .before .before .before .before .before .before .before .before .before .pre) (goes-then (c .before .before .before .before .before .before .before .before .before .descend .ensures .0) (c .before .before .loop .inv .0)) .1 .0
+same-length-2 c = goes-lengths (c .before .before .before .before .before .before .before .before .before .before .before .before .before .before .before .before .before .before .pre) (goes-then (c .before .before .before .before .before .before .before .before .before .before .before .before .loop .inv) (c .before .before .before .before .before .before .before .before .descend .ensures .0)) .1 .0
 
 same-length-3 : tie.Need-same-length-3 Inv-loop μ-loop
-same-length-3 c = goes-lengths (c .before .before .before .before .before .before .before .before .before .before .before .before .before .before .before .before .before .before .pre) (goes-then (c .before .before .before .before .before .before .before .before .before .descend .ensures .0) (c .before .before .loop .inv .0)) .1 .1
+same-length-3 c = goes-lengths (c .before .before .before .before .before .before .before .before .before .before .before .before .before .before .before .before .before .before .pre) (goes-then (c .before .before .before .before .before .before .before .before .before .before .before .before .loop .inv) (c .before .before .before .before .before .before .before .before .descend .ensures .0)) .1 .1
 
 returns : tie.Need-returns Inv-loop μ-loop
-returns c = (goes-then (c .before .before .before .before .before .before .before .before .before .descend .ensures .0) (c .before .before .loop .inv .0), (c .before .before .loop .inv .1, c .if1 .left))
+returns c = (goes-then (c .before .before .before .before .before .before .before .before .before .before .before .before .loop .inv) (c .before .before .before .before .before .before .before .before .descend .ensures .0), (c .before .before .before .before .before .before .before .before .descend .ensures .1 .0, c .if1 .taken))
+
+retreat-requires : tie.Need-retreat-requires Inv-loop μ-loop
+retreat-requires c κs = (goes-some (c .before .before .before .before .before .before .before .before .before .before .before .before .before .before .before .before .before .before .before .before .before .pre) (goes-then (c .before .before .before .before .before .before .before .before .before .before .before .before .before .before .before .loop .inv) (c .before .before .before .before .before .before .before .before .before .before .before .descend .ensures .0)), c .before .before .before .before .before .before .before .before .before .before .before .descend .ensures .1 .0, c .before .before .before .if1 .left)
+
+loop-less : tie.Need-loop-less Inv-loop μ-loop
+loop-less c = let f = retreat-few (goes-some (c .before .before .before .before .before .before .before .before .before .before .before .before .before .before .before .before .before .before .before .before .before .before .before .before .pre) (goes-then (c .before .before .before .before .before .before .before .before .before .before .before .before .before .before .before .before .before .before .loop .inv) (c .before .before .before .before .before .before .before .before .before .before .before .before .before .before .descend .ensures .0)) .is) (c .before .before .before .before .before .before .before .before .before .before .before .before .before .before .descend .ensures .1 .0) (c .before .before .before .before .before .before .if1 .left) in omega (arith, c .before .before .retreat .ensures .1, c .before .before .before .before .before .before .before .before .before .before .before .before .before .before .descend .ensures .1 .1)
+
+loop-again : tie.Need-loop-again Inv-loop μ-loop
+loop-again c = goes-then (c .before .before .before .before .before .before .before .before .before .before .before .before .before .before .before .before .before .before .loop .inv) (goes-then (c .before .before .before .before .before .before .before .before .before .before .before .before .before .before .descend .ensures .0) (c .before .before .retreat .ensures .0))
 
 pub finish-spec : {M : Type 1} → statement M
 finish-spec =
     tie.close
-    (tie.spec
-    Inv-loop
-    μ-loop
-    descend-requires
-    loop-holds
-    retreat-requires
-    descend-requires-2
-    loop-less
-    loop-again
-    same-length
-    same-length-2
-    same-length-3
-    returns)
+    (tie.spec Inv-loop μ-loop loop-holds descend-requires same-length same-length-2 same-length-3 returns retreat-requires loop-less loop-again)

@@ -17,14 +17,11 @@ begin-requires c κs = search needs
 sub-i : tie.Need-sub-i
 sub-i c = search needs
 
-cast-i : tie.Need-cast-i
-cast-i c = search needs
+mul-t20 : tie.Need-mul-t20
+mul-t20 c = search needs
 
-mul-t14 : tie.Need-mul-t14
-mul-t14 c = search needs
-
-shared-slice-read-t21 : tie.Need-shared-slice-read-t21
-shared-slice-read-t21 c = search needs
+shared-slice-read-t22 : tie.Need-shared-slice-read-t22
+shared-slice-read-t22 c = search needs
 
 same-length : tie.Need-same-length
 same-length c = search needs
@@ -41,15 +38,4 @@ returns c = open-at (c .before .before .before .before .before .before .before .
 pub open-spec : {M : Type 1} → statement M
 open-spec =
     tie.close
-    (tie.spec
-    clear-requires
-    add-begin
-    begin-requires
-    sub-i
-    cast-i
-    mul-t14
-    shared-slice-read-t21
-    same-length
-    same-length-2
-    same-length-3
-    returns)
+    (tie.spec clear-requires add-begin begin-requires sub-i mul-t20 shared-slice-read-t22 same-length same-length-2 same-length-3 returns)

@@ -45,13 +45,13 @@ sub-k : tie.Need-sub-k
 sub-k c = search needs
 
 cast-k : tie.Need-cast-k
-cast-k c = search needs
+cast-k c = let z = c .before .before .before .before .before .before .before .before .before .before .before .before .before .before .before .before .pre in let b = place-bounds (z .0 .is) in let e = retreat-edge (z .0 .is) (z .1) (z .2) in omega arith
 
-mul-t23 : tie.Need-mul-t23
-mul-t23 c = search needs
+mul-t22 : tie.Need-mul-t22
+mul-t22 c = let z = c .before .before .before .before .before .before .before .before .before .before .before .before .before .before .before .before .pre in let b = place-bounds (z .0 .is) in let e = retreat-edge (z .0 .is) (z .1) (z .2) in omega arith
 
-shared-slice-read-t22 : tie.Need-shared-slice-read-t22
-shared-slice-read-t22 c = let z = c .before .before .before .before .before .before .before .before .before .before .before .before .before .before .before .before .before .pre in let b = place-bounds (z .0 .is) in let e = retreat-edge (z .0 .is) (z .1) (z .2) in omega arith
+shared-slice-read-t24 : tie.Need-shared-slice-read-t24
+shared-slice-read-t24 c = let z = c .before .before .before .before .before .before .before .before .before .before .before .before .before .before .before .before .before .pre in let b = place-bounds (z .0 .is) in let e = retreat-edge (z .0 .is) (z .1) (z .2) in omega arith
 
 same-length : tie.Need-same-length
 same-length c = search needs
@@ -62,21 +62,4 @@ returns c = let z = c .before .before .before .before .before .before .before .b
 pub retreat-spec : {M : Type 1} → statement M
 retreat-spec =
     tie.close
-    (tie.spec
-    emit-requires
-    sub-i
-    cast-i
-    mul-f
-    shared-slice-read-f
-    sub-j
-    sub-j-2
-    cast-j
-    mul-u
-    shared-slice-read-u
-    emit-requires-2
-    sub-k
-    cast-k
-    mul-t23
-    shared-slice-read-t22
-    same-length
-    returns)
+    (tie.spec emit-requires cast-i sub-i mul-f shared-slice-read-f cast-j sub-j sub-j-2 mul-u shared-slice-read-u emit-requires-2 cast-k sub-k mul-t22 shared-slice-read-t24 same-length returns)

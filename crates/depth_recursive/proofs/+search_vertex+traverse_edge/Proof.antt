@@ -4,9 +4,7 @@ use borrow.Author.Needs.{needs}
 use mathlib.Core.Path.{sym, _∙_}
 use Prim.Native.Nat.{ℕ, _+_, _-_, _*_, _<_}
 use native.Mathlib.Omega.{arith}
-use lib.ListN.{getD}
 use Rattle.images.specs.Checking.{image}
-use Rattle.walks.specs.Writing.{total}
 use Rattle.depth_recursive.proofs.Recursion.{edge-reads, pass-held, tree-search, tree-can, tree-falls, tree-lengths, tree-held, search-lengths, search-reads, search-begins, search-falls, Loop, way-at, way-lengths, way-ends, way-edge, way-can, way-turns, way-falls}
 use borrow.Fn.Kinds.{In}
 use borrow.Fn.PlainCycle.{Measures, is, falls, and}
@@ -16,16 +14,16 @@ use Rattle.depth_recursive.proofs.+search_vertex+traverse_edge.Lts-sear
 use Rattle.depth_recursive.proofs.traverse_edge.Reads as traverse-edge
 use Rattle.depth_recursive.proofs.traverse_edge.Kinds as traverse-edge-kinds
 use Rattle.depth_recursive.proofs.+search_vertex+traverse_edge.Lts-traverse_edge as traverse-edge-lts
-use Rattle.walks.proofs.emit.Reads as emit-reads
-use Rattle.walks.proofs.label.Reads as label-reads
+use Rattle.walks.proofs.depth.emit.Reads as emit-reads
+use Rattle.walks.proofs.depth.label.Reads as label-reads
 use Rattle.depth_recursive.proofs.+search_vertex+traverse_edge.{statement}
 use Rattle.depth_recursive.proofs.+search_vertex+traverse_edge.Tie.{close}
 
 abbrev μ-search-vertex : Measures 4 search-vertex-kinds.ps ℕ
-μ-search-vertex κs a = 2 * (a .0 - getD (a .1 .1 .1 .1 .1 .1 .1 .0) 0 0)
+μ-search-vertex κs a = 2 * (a .0 - a .1 .1 .1 .1 .1 .1 .1 .0 .labels)
 
 abbrev μ-traverse-edge : Measures 4 traverse-edge-kinds.ps ℕ
-μ-traverse-edge κs a = 2 * (a .0 - getD (a .1 .1 .1 .1 .1 .1 .1 .1 .0) 0 0) + 1
+μ-traverse-edge κs a = 2 * (a .0 - a .1 .1 .1 .1 .1 .1 .1 .1 .0 .labels) + 1
 
 abbrev search-vertex-at : ℕ → In 4 search-vertex-kinds.ps
 search-vertex-at t =
@@ -55,7 +53,7 @@ abbrev search-vertex-Inv-loop : search-vertex-lts.InvT-loop
 search-vertex-Inv-loop n m u after tail marks₁ events₁ v t₁ i r₁ marks events t r = Loop (image n m after tail) (u .0) marks₁ events₁ t₁ r₁ marks events t r
 
 abbrev search-vertex-μ-loop : search-vertex-lts.MeasureT-loop
-search-vertex-μ-loop n m u after tail marks₁ events₁ v t₁ i r₁ marks events t r = 10000 - total t
+search-vertex-μ-loop n m u after tail marks₁ events₁ v t₁ i r₁ marks events t r = 10000 - t .events
 
 search-vertex-label-requires : (t : ℕ) → search-vertex-lts.Need-label-requires (
   label-reads.Asked,
@@ -421,14 +419,14 @@ pub +search-vertex+traverse-edge-spec : {M : Type 1} → statement M
     search-vertex-Inv-loop
     search-vertex-μ-loop
     (search-vertex-label-requires t)
-    (search-vertex-sub-i t)
     (search-vertex-cast-i t)
+    (search-vertex-sub-i t)
     (search-vertex-mul-r t)
     (search-vertex-shared-slice-read-r t)
     (search-vertex-loop-holds t)
     (search-vertex-traverse-edge-requires t)
-    (search-vertex-sub-j t)
     (search-vertex-cast-j t)
+    (search-vertex-sub-j t)
     (search-vertex-mul-r-2 t)
     (search-vertex-shared-slice-read-r-2 t)
     (search-vertex-loop-less t)
@@ -441,13 +439,13 @@ pub +search-vertex+traverse-edge-spec : {M : Type 1} → statement M
     (emit-reads.Asked, emit-reads.Learnt, search-vertex-below t, search-vertex.Post)
     (traverse-edge-at t)
     traverse-edge.Post
+    (traverse-edge-cast-j t)
     (traverse-edge-sub-j t)
     (traverse-edge-sub-j-2 t)
-    (traverse-edge-cast-j t)
     (traverse-edge-mul-x t)
     (traverse-edge-shared-slice-read-x t)
-    (traverse-edge-sub-i t)
     (traverse-edge-cast-i t)
+    (traverse-edge-sub-i t)
     (traverse-edge-mul-if1 t)
     (traverse-edge-slice-read-if1 t)
     (traverse-edge-emit-requires t)

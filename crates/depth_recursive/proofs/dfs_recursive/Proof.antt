@@ -40,24 +40,12 @@ same-length-4 : tie.Need-same-length-4
 same-length-4 c = search needs
 
 returns-2 : tie.Need-returns-2
-returns-2 c =
-    let a = c .before .before .before .before .before .before .before .before .before .before .before .before .before .before .before .before .before .before .before .args in
-    let f = c .before .before .before .before .before .before .before .before .before .before .before .before .walk-number .ensures [] refl in
-    let z = c .before .before .before .before .before .before .before .before .before .before .before .if1 .left in
-    walk-ends (image (a .n) (a .m) (a .after .now) (a .tail .now)) (a .start .0) (a .marks .now) (a .events .now) f z (c .before .before .before .before .search-vertex .ensures [] (a .marks .now) (a .events .now) (walk-begins (image (a .n) (a .m) (a .after .now) (a .tail .now)) (a .start .0) (a .marks .now) (a .events .now) f z (c .before .before .before .before .before .before .before .before .before .clear .ensures)))
+returns-2 c = let a = c .before .before .before .before .before .before .before .before .before .before .before .before .before .before .before .before .before .before .before .before .args in let f = c .before .before .before .before .before .before .before .before .before .before .before .before .before .walk-number .ensures [] refl in let z = c .before .before .before .before .before .before .before .before .before .before .before .before .if1 .left in let g = image (a .n) (a .m) (a .after .now) (a .tail .now) in walk-ends g (a .start .0) (a .marks .now) (a .events .now) f z (c .before .before .before .before .before .search-vertex .ensures [] (a .marks .now) (a .events .now) (walk-begins g (a .start .0) (a .marks .now) (a .events .now) f z (c .before .before .before .before .before .before .before .before .before .before .clear .ensures))) (c .tally .ensures)
+
+tally-requires : tie.Need-tally-requires
+tally-requires c κs = search needs
 
 pub dfs-recursive-spec : {M : Type 1} → statement M
 dfs-recursive-spec =
     tie.close
-    (tie.spec
-    walk-number-requires
-    refused-requires
-    same-length
-    same-length-2
-    returns
-    add-clear
-    clear-requires
-    search-vertex-requires
-    same-length-3
-    same-length-4
-    returns-2)
+    (tie.spec walk-number-requires refused-requires same-length same-length-2 returns add-clear clear-requires search-vertex-requires tally-requires same-length-3 same-length-4 returns-2)

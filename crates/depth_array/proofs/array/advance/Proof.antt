@@ -121,41 +121,4 @@ returns-2 c = let z = c .before .before .before .before .before .before .before 
 pub advance-spec : {M : Type 1} → statement M
 advance-spec =
     tie.close
-    (tie.spec
-    sub-j
-    cast-j
-    mul-x
-    slice-read-x
-    sub-i
-    cast-i
-    mul-if1
-    slice-read-if1
-    add-emit
-    emit-requires
-    sub-k
-    cast-k
-    mul-increments
-    shared-slice-read-increments
-    sub-increments
-    add-increments
-    mul-increments-2
-    slice-write-increments
-    mul-tails
-    slice-write-tails
-    label-requires
-    mul-increments-3
-    slice-write-increments-2
-    mul-t31
-    shared-slice-read-t30
-    add-emit-2
-    emit-requires-2
-    add-emit-3
-    emit-requires-3
-    add-t46
-    same-length
-    same-length-2
-    same-length-3
-    same-length-4
-    returns
-    same-length-5
-    returns-2)
+    (tie.spec cast-j sub-j mul-x slice-read-x cast-i sub-i mul-if1 slice-read-if1 add-emit emit-requires cast-k sub-k mul-increments shared-slice-read-increments sub-increments add-increments mul-increments-2 slice-write-increments mul-tails slice-write-tails label-requires mul-increments-3 slice-write-increments-2 mul-t31 shared-slice-read-t30 add-emit-2 emit-requires-2 add-emit-3 emit-requires-3 add-t46 same-length same-length-2 same-length-3 same-length-4 returns same-length-5 returns-2)

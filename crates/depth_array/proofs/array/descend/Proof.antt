@@ -2,16 +2,15 @@
 -- The loop keeps the place, whatever areas were lent. Each turn counts two events more, and the search has at most 10,000.
 use Prim.Native.Nat.{_-_, _≤_}
 use native.Mathlib.Omega.{arith}
-use Rattle.walks.specs.Writing.{total}
 use Rattle.depth_array.proofs.Increments.{within, tail, Onward, some-onward, kept, is-ahead, is-done}
 use Rattle.depth_array.proofs.array.descend.Statement.{statement}
 use Rattle.depth_array.proofs.array.descend.Tie as tie
 
 abbrev Inv-loop : tie.InvT-loop
-Inv-loop n m start firsts tails₀ marks₀ increments₀ events₀ q₀ tails marks increments events q = Onward n m start firsts tails₀ marks₀ increments₀ events₀ q₀ tails marks increments events q × (total (q₀ .tally) ≤ total (q .tally))
+Inv-loop n m start firsts tails₀ marks₀ increments₀ events₀ q₀ tails marks increments events q = Onward n m start firsts tails₀ marks₀ increments₀ events₀ q₀ tails marks increments events q × (q₀ .progress .events ≤ q .progress .events)
 
 abbrev μ-loop : tie.MeasureT-loop
-μ-loop n m start firsts tails₀ marks₀ increments₀ events₀ q₀ tails marks increments events q = 10000 - total (q .tally)
+μ-loop n m start firsts tails₀ marks₀ increments₀ events₀ q₀ tails marks increments events q = 10000 - q .progress .events
 
 loop-holds : tie.Need-loop-holds Inv-loop μ-loop
 loop-holds c = (λ t m i e A. A, omega arith)
@@ -52,18 +51,4 @@ returns c = (c .before .before .before .before .loop .inv .0, (is-done _ _ _ (wi
 pub descend-spec : {M : Type 1} → statement M
 descend-spec =
     tie.close
-    (tie.spec
-    Inv-loop
-    μ-loop
-    loop-holds
-    cast-if1
-    mul-if1
-    shared-slice-read-if1
-    advance-requires
-    loop-less
-    loop-again
-    same-length
-    same-length-2
-    same-length-3
-    same-length-4
-    returns)
+    (tie.spec Inv-loop μ-loop loop-holds cast-if1 mul-if1 shared-slice-read-if1 advance-requires loop-less loop-again same-length same-length-2 same-length-3 same-length-4 returns)

@@ -1,67 +1,50 @@
 -- Going on until only the start is left, and no edge is ahead of it.
--- The loop keeps the place, with no edge ahead. Each turn counts two events more at least, and the search has at most 10,000.
+-- The loop keeps the place. Each turn counts two events more at least, and the search has at most 10,000.
 use mathlib.Core.Path.{_≡_}
 use Prim.Native.Nat.{suc, _-_}
 use native.Mathlib.Omega.{arith}
 use Rattle.lists.specs.Words.{at}
-use Rattle.walks.specs.Writing.{total}
 use Rattle.depth_array.proofs.Increments.{back, Onward, some-onward, kept}
 use Rattle.depth_array.proofs.array.finish.Statement.{statement}
 use Rattle.depth_array.proofs.array.finish.Tie as tie
 
 abbrev Inv-loop : tie.InvT-loop
-Inv-loop n m start firsts tails₀ marks₀ increments₀ events₀ q₀ tails marks increments events q = Onward n m start firsts tails₀ marks₀ increments₀ events₀ q₀ tails marks increments events q × (q .e ≡ at 0 firsts (suc (q .v)))
+Inv-loop n m start firsts tails₀ marks₀ increments₀ events₀ q₀ tails marks increments events q = Onward n m start firsts tails₀ marks₀ increments₀ events₀ q₀ tails marks increments events q
 
 abbrev μ-loop : tie.MeasureT-loop
-μ-loop n m start firsts tails₀ marks₀ increments₀ events₀ q₀ tails marks increments events q = 10000 - total (q .tally)
-
-descend-requires : tie.Need-descend-requires Inv-loop μ-loop
-descend-requires c κs = c .before .before .before .before .before .before .before .before .before .pre
+μ-loop n m start firsts tails₀ marks₀ increments₀ events₀ q₀ tails marks increments events q = 10000 - q .progress .events
 
 loop-holds : tie.Need-loop-holds Inv-loop μ-loop
-loop-holds c = (λ t m i e A. A, c .before .before .before .before .before .before .before .before .descend .ensures .1 .0)
+loop-holds c = λ t m i e A. A
 
-retreat-requires : tie.Need-retreat-requires Inv-loop μ-loop
-retreat-requires c κs = (some-onward (some-onward (c .before .before .before .before .before .before .before .before .before .before .before .before .before .before .before .before .before .before .before .before .before .before .before .before .before .pre) (c .before .before .before .before .before .before .before .before .before .before .before .before .before .before .before .descend .ensures .0)) (c .before .before .before .before .before .before .loop .inv .0), c .before .before .before .before .before .before .loop .inv .1, c .before .before .before .before .if1 .taken)
-
-descend-requires-2 : tie.Need-descend-requires-2 Inv-loop μ-loop
-descend-requires-2 c κs = some-onward (some-onward (some-onward (c .before .before .before .before .before .before .before .before .before .before .before .before .before .before .before .before .before .before .before .before .before .before .before .before .before .before .before .before .before .before .before .before .before .before .pre) (c .before .before .before .before .before .before .before .before .before .before .before .before .before .before .before .before .before .before .before .before .before .before .before .before .descend .ensures .0)) (c .before .before .before .before .before .before .before .before .before .before .before .before .before .before .before .loop .inv .0)) (c .before .before .before .before .before .before .before .before .retreat .ensures .0)
-
-loop-less : tie.Need-loop-less Inv-loop μ-loop
-loop-less c = let b = back (some-onward (some-onward (c .before .before .before .before .before .before .before .before .before .before .before .before .before .before .before .before .before .before .before .before .before .before .before .before .before .before .before .before .before .before .before .before .before .before .before .before .before .before .before .before .before .before .before .pre) (c .before .before .before .before .before .before .before .before .before .before .before .before .before .before .before .before .before .before .before .before .before .before .before .before .before .before .before .before .before .before .before .before .before .descend .ensures .0)) (c .before .before .before .before .before .before .before .before .before .before .before .before .before .before .before .before .before .before .before .before .before .before .before .before .loop .inv .0) .is) (c .before .before .before .before .before .before .before .before .before .before .before .before .before .before .before .before .before .before .before .before .before .before .before .before .loop .inv .1) (c .before .before .before .before .before .before .before .before .before .before .before .before .before .before .before .before .before .before .before .before .before .before .if1 .taken) in omega (arith, c .before .before .before .before .before .before .before .before .before .before .before .before .before .before .before .before .before .retreat .ensures .1, c .before .before .before .before .before .before .before .before .descend2 .ensures .1 .1)
-
-loop-again : tie.Need-loop-again Inv-loop μ-loop
-loop-again c = (λ t m i e A. c .before .before .before .before .before .before .before .before .descend2 .ensures .0 t m i e (c .before .before .before .before .before .before .before .before .before .before .before .before .before .before .before .before .before .retreat .ensures .0 t m i e (c .before .before .before .before .before .before .before .before .before .before .before .before .before .before .before .before .before .before .before .before .before .before .before .before .loop .inv .0 t m i e A)), c .before .before .before .before .before .before .before .before .descend2 .ensures .1 .0)
+descend-requires : tie.Need-descend-requires Inv-loop μ-loop
+descend-requires c κs = some-onward (c .before .before .before .before .before .before .before .before .before .before .pre) (c .before .before .before .before .loop .inv)
 
 same-length : tie.Need-same-length Inv-loop μ-loop
-same-length c = kept (c .before .before .before .before .before .before .before .before .before .before .before .before .before .before .before .before .before .before .before .before .before .pre) (λ t m i e A. c .before .before .loop .inv .0 t m i e (c .before .before .before .before .before .before .before .before .before .before .before .descend .ensures .0 t m i e A)) .tails-long
+same-length c = kept (c .before .before .before .before .before .before .before .before .before .before .before .before .before .before .before .before .before .before .before .before .before .pre) (λ t m i e A. c .before .before .before .before .before .before .before .before .before .before .descend .ensures .0 t m i e (c .before .before .before .before .before .before .before .before .before .before .before .before .before .before .before .loop .inv t m i e A)) .tails-long
 
 same-length-2 : tie.Need-same-length-2 Inv-loop μ-loop
-same-length-2 c = kept (c .before .before .before .before .before .before .before .before .before .before .before .before .before .before .before .before .before .before .before .before .before .pre) (λ t m i e A. c .before .before .loop .inv .0 t m i e (c .before .before .before .before .before .before .before .before .before .before .before .descend .ensures .0 t m i e A)) .marks-long
+same-length-2 c = kept (c .before .before .before .before .before .before .before .before .before .before .before .before .before .before .before .before .before .before .before .before .before .pre) (λ t m i e A. c .before .before .before .before .before .before .before .before .before .before .descend .ensures .0 t m i e (c .before .before .before .before .before .before .before .before .before .before .before .before .before .before .before .loop .inv t m i e A)) .marks-long
 
 same-length-3 : tie.Need-same-length-3 Inv-loop μ-loop
-same-length-3 c = kept (c .before .before .before .before .before .before .before .before .before .before .before .before .before .before .before .before .before .before .before .before .before .pre) (λ t m i e A. c .before .before .loop .inv .0 t m i e (c .before .before .before .before .before .before .before .before .before .before .before .descend .ensures .0 t m i e A)) .increments-long
+same-length-3 c = kept (c .before .before .before .before .before .before .before .before .before .before .before .before .before .before .before .before .before .before .before .before .before .pre) (λ t m i e A. c .before .before .before .before .before .before .before .before .before .before .descend .ensures .0 t m i e (c .before .before .before .before .before .before .before .before .before .before .before .before .before .before .before .loop .inv t m i e A)) .increments-long
 
 same-length-4 : tie.Need-same-length-4 Inv-loop μ-loop
-same-length-4 c = kept (c .before .before .before .before .before .before .before .before .before .before .before .before .before .before .before .before .before .before .before .before .before .pre) (λ t m i e A. c .before .before .loop .inv .0 t m i e (c .before .before .before .before .before .before .before .before .before .before .before .descend .ensures .0 t m i e A)) .events-long
+same-length-4 c = kept (c .before .before .before .before .before .before .before .before .before .before .before .before .before .before .before .before .before .before .before .before .before .pre) (λ t m i e A. c .before .before .before .before .before .before .before .before .before .before .descend .ensures .0 t m i e (c .before .before .before .before .before .before .before .before .before .before .before .before .before .before .before .loop .inv t m i e A)) .events-long
 
 returns : tie.Need-returns Inv-loop μ-loop
-returns c = ((λ t m i e A. c .before .before .loop .inv .0 t m i e (c .before .before .before .before .before .before .before .before .before .before .before .descend .ensures .0 t m i e A)), (c .before .before .loop .inv .1, c .if1 .left))
+returns c = ((λ t m i e A. c .before .before .before .before .before .before .before .before .before .before .descend .ensures .0 t m i e (c .before .before .before .before .before .before .before .before .before .before .before .before .before .before .before .loop .inv t m i e A)), (c .before .before .before .before .before .before .before .before .before .before .descend .ensures .1 .0, c .if1 .taken))
+
+retreat-requires : tie.Need-retreat-requires Inv-loop μ-loop
+retreat-requires c κs = (some-onward (c .before .before .before .before .before .before .before .before .before .before .before .before .before .before .before .before .before .before .before .before .before .before .before .before .before .pre) (λ t m i e A. c .before .before .before .before .before .before .before .before .before .before .before .before .before .before .descend .ensures .0 t m i e (c .before .before .before .before .before .before .before .before .before .before .before .before .before .before .before .before .before .before .before .loop .inv t m i e A)), c .before .before .before .before .before .before .before .before .before .before .before .before .before .before .descend .ensures .1 .0, c .before .before .before .before .if1 .left)
+
+loop-less : tie.Need-loop-less Inv-loop μ-loop
+loop-less c = let b = back (some-onward (c .before .before .before .before .before .before .before .before .before .before .before .before .before .before .before .before .before .before .before .before .before .before .before .before .before .before .before .before .before .before .pre) (λ t m i e A. c .before .before .before .before .before .before .before .before .before .before .before .before .before .before .before .before .before .before .before .descend .ensures .0 t m i e (c .before .before .before .before .before .before .before .before .before .before .before .before .before .before .before .before .before .before .before .before .before .before .before .before .loop .inv t m i e A)) .is) (c .before .before .before .before .before .before .before .before .before .before .before .before .before .before .before .before .before .before .before .descend .ensures .1 .0) (c .before .before .before .before .before .before .before .before .before .if1 .left) in omega (arith, c .before .before .before .before .retreat .ensures .1, c .before .before .before .before .before .before .before .before .before .before .before .before .before .before .before .before .before .before .before .descend .ensures .1 .1)
+
+loop-again : tie.Need-loop-again Inv-loop μ-loop
+loop-again c = λ t m i e A. c .before .before .before .before .retreat .ensures .0 t m i e (c .before .before .before .before .before .before .before .before .before .before .before .before .before .before .before .before .before .before .before .descend .ensures .0 t m i e (c .before .before .before .before .before .before .before .before .before .before .before .before .before .before .before .before .before .before .before .before .before .before .before .before .loop .inv t m i e A))
 
 pub finish-spec : {M : Type 1} → statement M
 finish-spec =
     tie.close
-    (tie.spec
-    Inv-loop
-    μ-loop
-    descend-requires
-    loop-holds
-    retreat-requires
-    descend-requires-2
-    loop-less
-    loop-again
-    same-length
-    same-length-2
-    same-length-3
-    same-length-4
-    returns)
+    (tie.spec Inv-loop μ-loop loop-holds descend-requires same-length same-length-2 same-length-3 same-length-4 returns retreat-requires loop-less loop-again)

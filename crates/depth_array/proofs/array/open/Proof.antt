@@ -16,20 +16,17 @@ begin-requires c κs = search needs
 sub-first : tie.Need-sub-first
 sub-first c = search needs
 
-cast-first : tie.Need-cast-first
-cast-first c = search needs
-
 mul-increments : tie.Need-mul-increments
 mul-increments c = search needs
 
 slice-write-increments : tie.Need-slice-write-increments
 slice-write-increments c = search needs
 
-mul-t19 : tie.Need-mul-t19
-mul-t19 c = search needs
+mul-t14 : tie.Need-mul-t14
+mul-t14 c = search needs
 
-shared-slice-read-t21 : tie.Need-shared-slice-read-t21
-shared-slice-read-t21 c = search needs
+shared-slice-read-t23 : tie.Need-shared-slice-read-t23
+shared-slice-read-t23 c = search needs
 
 same-length : tie.Need-same-length
 same-length c = search needs
@@ -46,17 +43,4 @@ returns c = begun (c .before .before .before .before .before .before .before .be
 pub open-spec : {M : Type 1} → statement M
 open-spec =
     tie.close
-    (tie.spec
-    clear-requires
-    add-begin
-    begin-requires
-    sub-first
-    cast-first
-    mul-increments
-    slice-write-increments
-    mul-t19
-    shared-slice-read-t21
-    same-length
-    same-length-2
-    same-length-3
-    returns)
+    (tie.spec clear-requires add-begin begin-requires sub-first mul-increments slice-write-increments mul-t14 shared-slice-read-t23 same-length same-length-2 same-length-3 returns)

@@ -58,8 +58,8 @@ add-emit c = let z = c .before .before .before .before .before .before .before .
 emit-requires-2 : tie.Need-emit-requires-2
 emit-requires-2 c κs = search needs
 
-add-t27 : tie.Need-add-t27
-add-t27 c = let z = c .before .before .before .before .before .before .before .before .before .before .before .before .before .before .before .before .before .pre in let w = within (z .0 .is) in let b = back (z .0 .is) (z .1) (z .2) in omega arith
+add-t23 : tie.Need-add-t23
+add-t23 c = let z = c .before .before .before .before .before .before .before .before .before .before .before .before .before .before .before .before .before .pre in let w = within (z .0 .is) in let b = back (z .0 .is) (z .1) (z .2) in omega arith
 
 same-length : tie.Need-same-length
 same-length c = search needs
@@ -73,25 +73,4 @@ returns c = let z = c .before .before .before .before .before .before .before .b
 pub retreat-spec : {M : Type 1} → statement M
 retreat-spec =
     tie.close
-    (tie.spec
-    emit-requires
-    sub-i
-    cast-i
-    mul-e
-    shared-slice-read-e
-    mul-e-2
-    shared-slice-read-e-2
-    add-e
-    sub-e
-    sub-j
-    cast-j
-    mul-f
-    slice-read-f
-    mul-tails
-    slice-write-tails
-    add-emit
-    emit-requires-2
-    add-t27
-    same-length
-    same-length-2
-    returns)
+    (tie.spec emit-requires cast-i sub-i mul-e shared-slice-read-e mul-e-2 shared-slice-read-e-2 add-e sub-e cast-j sub-j mul-f slice-read-f mul-tails slice-write-tails add-emit emit-requires-2 add-t23 same-length same-length-2 returns)

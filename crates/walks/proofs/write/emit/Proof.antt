@@ -64,9 +64,6 @@ slice-write-events-3 c = simp length-set (omega (arith, room c .room, c .count .
 sub-k : tie.Need-sub-k
 sub-k c = room c .low
 
-cast-k : tie.Need-cast-k
-cast-k c = search needs
-
 mul-t : tie.Need-mul-t
 mul-t c = search needs
 
@@ -105,7 +102,6 @@ emit-spec =
     mul-events-3
     slice-write-events-3
     sub-k
-    cast-k
     mul-t
     array-read-t
     add-t

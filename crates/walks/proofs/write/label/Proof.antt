@@ -22,9 +22,6 @@ returns-3 c = not-labelled (c .before .before .before .before .before .before .a
 sub-i : tie.Need-sub-i
 sub-i c = search needs
 
-cast-i : tie.Need-cast-i
-cast-i c = search needs
-
 array-read-marks : tie.Need-array-read-marks
 array-read-marks c = search needs
 
@@ -61,7 +58,6 @@ label-spec =
     has-room-requires
     returns-3
     sub-i
-    cast-i
     array-read-marks
     add-marks
     cast-marks
