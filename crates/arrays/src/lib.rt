@@ -35,15 +35,15 @@ fn list_edges(
     ensures numbers { λ r. ⌜ now (numbers .exit) ≡ pasted (p - 1) (edgesOf (image n m (now (after .entry)) (now (tail .entry))) u) (now (numbers .entry)) ⌝ }
 {
     let mut q = p;
-    let first = (u - 1) as usize;
+    let first = u as usize - 1;
     let mut r = after[first];
     while r != 0 {
-        let i = (q - 1) as usize;
-        let k = (r - n - 1) as usize;
+        let i = q as usize - 1;
+        let k = r as usize - n as usize - 1;
         tails[i] = tail[k];
         numbers[i] = r;
         q += 1;
-        let j = (r - 1) as usize;
+        let j = r as usize - 1;
         r = after[j];
     }
     q

@@ -25,11 +25,11 @@ fn last_node(n: u16, m: u16, x: u16, after: &[u16]) -> u16
     ensures { λ r. ⌜ r ≡ lastFrom m (now (after .entry)) x ⌝ }
 {
     let mut f = x;
-    let i = (x - 1) as usize;
+    let i = x as usize - 1;
     let mut a = after[i];
     while a != 0 {
         f = a;
-        let j = (f - 1) as usize;
+        let j = f as usize - 1;
         a = after[j];
     }
     f
@@ -62,23 +62,23 @@ fn scan_vertex(
     let mut t = tally;
     let mut last = f;
     let mut e = v;
-    let i = (v - 1) as usize;
+    let i = v as usize - 1;
     let mut a = after[i];
     while n < a {
         e = a;
         let b = emit(events, 7, e, v, t);
         t = b;
-        let j = (e - n - 1) as usize;
+        let j = e as usize - n as usize - 1;
         let x = tail[j];
-        let l = (x - 1) as usize;
+        let l = x as usize - 1;
         if marks[l] == 0 {
             let c = label(marks, events, x, t);
             t = c;
-            let k = (last - 1) as usize;
+            let k = last as usize - 1;
             after[k] = x;
             last = last_node(n, m, x, after);
         }
-        let k = (e - 1) as usize;
+        let k = e as usize - 1;
         a = after[k];
     }
     let s = emit(events, 6, 0, v, t);
@@ -110,7 +110,7 @@ fn search(
         let t = s.tally;
         tally = t;
         f = s.f;
-        let i = (s.e - 1) as usize;
+        let i = s.e as usize - 1;
         v = after[i];
         after[i] = 0;
     }

@@ -37,21 +37,21 @@ fn scan_vertex(
     ensures { λ q. ⌜ ((i : ℕ) (marks₀ queue₀ events₀ : List ℕ) → QueueAt (image n m (now (after .entry)) (now (tail .entry))) start i marks₀ queue₀ events₀ (now (marks .entry)) (now (queue .entry)) (now (events .entry)) tally → QueueScanned (image n m (now (after .entry)) (now (tail .entry))) start i marks₀ queue₀ events₀ (now (marks .exit)) (now (queue .exit)) (now (events .exit)) tally q) ⌝ }
 {
     let mut t = tally;
-    let i = (v - 1) as usize;
+    let i = v as usize - 1;
     let mut e = after[i];
     while e != 0 {
         let a = emit(events, 7, e, v, t);
         t = a;
-        let j = (e - n - 1) as usize;
+        let j = e as usize - n as usize - 1;
         let x = tail[j];
-        let l = (x - 1) as usize;
+        let l = x as usize - 1;
         if marks[l] == 0 {
             let last = t[0] as usize;
             queue[last] = x;
             let b = label(marks, events, x, t);
             t = b;
         }
-        let k = (e - 1) as usize;
+        let k = e as usize - 1;
         e = after[k];
     }
     emit(events, 6, 0, v, t)

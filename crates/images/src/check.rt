@@ -60,7 +60,7 @@ fn flag_list(n: u16, m: u16, first: u16, after: &[u16], flags: &mut [u8], count:
     let mut r = first;
     let mut c = count;
     while r != 0 {
-        let k = (r - n - 1) as usize;
+        let k = r as usize - n as usize - 1;
         if flags[k] != 0 {
             return Flagged {
                 new: false,
@@ -69,7 +69,7 @@ fn flag_list(n: u16, m: u16, first: u16, after: &[u16], flags: &mut [u8], count:
         }
         flags[k] = 1;
         c += 1;
-        let j = (r - 1) as usize;
+        let j = r as usize - 1;
         r = after[j];
     }
     Flagged {

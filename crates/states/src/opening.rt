@@ -64,7 +64,7 @@ pub fn open(
         return refused(k, no_state(n, m, start));
     }
     begin(marks, events, nodes, x);
-    let i = (x - 1) as usize;
+    let i = x as usize - 1;
     let e = Edge(after[i]);
     let s = State {
         n: n,

@@ -261,9 +261,9 @@ fn link(n: u16, m: u16, after: &mut [u16])
     let mut k = m;
     while k > 0 {
         let r = n + k;
-        let e = (r - 1) as usize;
+        let e = r as usize - 1;
         let from = after[e];
-        let v = (from - 1) as usize;
+        let v = from as usize - 1;
         after[e] = after[v];
         after[v] = r;
         k -= 1;

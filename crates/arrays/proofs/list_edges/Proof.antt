@@ -16,9 +16,6 @@ abbrev μ-loop : tie.MeasureT-loop
 sub-first : tie.Need-sub-first Inv-loop μ-loop
 sub-first c = let f = list-first (c .pre) in omega arith
 
-cast-first : tie.Need-cast-first Inv-loop μ-loop
-cast-first c = let f = list-first (c .pre) in omega arith
-
 mul-r : tie.Need-mul-r Inv-loop μ-loop
 mul-r c = let f = list-first (c .pre) in omega arith
 
@@ -94,32 +91,4 @@ returns c = list-end (c .before .before .before .pre) (c .before .loop .inv) (c 
 pub list-edges-spec : {M : Type 1} → statement M
 list-edges-spec =
     tie.close
-    (tie.spec
-    Inv-loop
-    μ-loop
-    sub-first
-    cast-first
-    mul-r
-    shared-slice-read-r
-    loop-holds
-    sub-i
-    cast-i
-    sub-k
-    sub-k-2
-    cast-k
-    mul-tails
-    shared-slice-read-tails
-    mul-tails-2
-    slice-write-tails
-    mul-numbers
-    slice-write-numbers
-    add-q
-    sub-j
-    cast-j
-    mul-r-2
-    shared-slice-read-r-2
-    loop-less
-    loop-again
-    same-length
-    same-length-2
-    returns)
+    (tie.spec Inv-loop μ-loop sub-first mul-r shared-slice-read-r loop-holds cast-i sub-i cast-k sub-k sub-k-2 mul-tails shared-slice-read-tails mul-tails-2 slice-write-tails mul-numbers slice-write-numbers add-q cast-j sub-j mul-r-2 shared-slice-read-r-2 loop-less loop-again same-length same-length-2 returns)

@@ -15,9 +15,6 @@ abbrev μ-loop : tie.MeasureT-loop
 sub-i : tie.Need-sub-i Inv-loop μ-loop
 sub-i c = let f = ends-first (c .pre) in omega arith
 
-cast-i : tie.Need-cast-i Inv-loop μ-loop
-cast-i c = let f = ends-first (c .pre) in omega arith
-
 mul-a : tie.Need-mul-a Inv-loop μ-loop
 mul-a c = let f = ends-first (c .pre) in omega arith
 
@@ -51,18 +48,4 @@ returns c = follow-end (c .before .before .before .pre) (c .before .loop .inv) (
 pub last-node-spec : {M : Type 1} → statement M
 last-node-spec =
     tie.close
-    (tie.spec
-    Inv-loop
-    μ-loop
-    sub-i
-    cast-i
-    mul-a
-    shared-slice-read-a
-    loop-holds
-    sub-j
-    cast-j
-    mul-a-2
-    shared-slice-read-a-2
-    loop-less
-    loop-again
-    returns)
+    (tie.spec Inv-loop μ-loop sub-i mul-a shared-slice-read-a loop-holds cast-j sub-j mul-a-2 shared-slice-read-a-2 loop-less loop-again returns)

@@ -27,9 +27,6 @@ abbrev μ-loop : tie.MeasureT-loop
 sub-i : tie.Need-sub-i Inv-loop μ-loop
 sub-i c = let f = scan-first (c .before .before .before .before .pre .is) in omega arith
 
-cast-i : tie.Need-cast-i Inv-loop μ-loop
-cast-i c = let f = scan-first (c .before .before .before .before .pre .is) in omega arith
-
 mul-a : tie.Need-mul-a Inv-loop μ-loop
 mul-a c = let f = scan-first (c .before .before .before .before .pre .is) in omega arith
 
@@ -139,38 +136,4 @@ returns c = λ after₀ marks₀ events₀ F. scan-end F (c .before .before .bef
 pub scan-vertex-spec : {M : Type 1} → statement M
 scan-vertex-spec =
     tie.close
-    (tie.spec
-    Inv-loop
-    μ-loop
-    sub-i
-    cast-i
-    mul-a
-    slice-read-a
-    loop-holds
-    emit-requires
-    sub-j
-    sub-j-2
-    cast-j
-    mul-x
-    shared-slice-read-x
-    sub-l
-    cast-l
-    mul-if1
-    slice-read-if1
-    label-requires
-    sub-k
-    cast-k
-    mul-after
-    slice-write-after
-    last-node-requires
-    sub-k-2
-    cast-k-2
-    mul-a-2
-    slice-read-a-2
-    loop-less
-    loop-again
-    emit-requires-2
-    same-length
-    same-length-2
-    same-length-3
-    returns)
+    (tie.spec Inv-loop μ-loop sub-i mul-a slice-read-a loop-holds emit-requires cast-j sub-j sub-j-2 mul-x shared-slice-read-x cast-l sub-l mul-if1 slice-read-if1 label-requires cast-k sub-k mul-after slice-write-after last-node-requires cast-k-2 sub-k-2 mul-a-2 slice-read-a-2 loop-less loop-again emit-requires-2 same-length same-length-2 same-length-3 returns)

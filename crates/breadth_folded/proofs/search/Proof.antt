@@ -68,23 +68,4 @@ returns c = ended (c .before .before .before .before .before .before .before .be
 pub search-spec : {M : Type 1} → statement M
 search-spec =
     tie.close
-    (tie.spec
-    Inv-loop
-    μ-loop
-    add-begin
-    begin-requires
-    last-node-requires
-    loop-holds
-    scan-vertex-requires
-    sub-i
-    cast-i
-    mul-v
-    slice-read-v
-    mul-after
-    slice-write-after
-    loop-less
-    loop-again
-    same-length
-    same-length-2
-    same-length-3
-    returns)
+    (tie.spec Inv-loop μ-loop add-begin begin-requires last-node-requires loop-holds scan-vertex-requires cast-i sub-i mul-v slice-read-v mul-after slice-write-after loop-less loop-again same-length same-length-2 same-length-3 returns)

@@ -20,9 +20,6 @@ abbrev μ-loop : tie.MeasureT-loop
 sub-i : tie.Need-sub-i Inv-loop μ-loop
 sub-i c = let f = kept-first (c .before .before .before .before .before .pre) in omega arith
 
-cast-i : tie.Need-cast-i Inv-loop μ-loop
-cast-i c = let f = kept-first (c .before .before .before .before .before .pre) in omega arith
-
 mul-e : tie.Need-mul-e Inv-loop μ-loop
 mul-e c = let f = kept-first (c .before .before .before .before .before .pre) in omega arith
 
@@ -144,37 +141,4 @@ returns c = λ k ms qs es a. scan-end (c .before .before .before .before .before
 pub scan-vertex-spec : {M : Type 1} → statement M
 scan-vertex-spec =
     tie.close
-    (tie.spec
-    Inv-loop
-    μ-loop
-    sub-i
-    cast-i
-    mul-e
-    shared-slice-read-e
-    loop-holds
-    emit-requires
-    sub-j
-    sub-j-2
-    cast-j
-    mul-x
-    shared-slice-read-x
-    sub-l
-    cast-l
-    mul-if1
-    slice-read-if1
-    array-read-last
-    cast-last
-    mul-queue
-    slice-write-queue
-    label-requires
-    sub-k
-    cast-k
-    mul-e-2
-    shared-slice-read-e-2
-    loop-less
-    loop-again
-    emit-requires-2
-    same-length
-    same-length-2
-    same-length-3
-    returns)
+    (tie.spec Inv-loop μ-loop sub-i mul-e shared-slice-read-e loop-holds emit-requires cast-j sub-j sub-j-2 mul-x shared-slice-read-x cast-l sub-l mul-if1 slice-read-if1 array-read-last cast-last mul-queue slice-write-queue label-requires cast-k sub-k mul-e-2 shared-slice-read-e-2 loop-less loop-again emit-requires-2 same-length same-length-2 same-length-3 returns)

@@ -86,26 +86,4 @@ returns c = λ start ls area p.
 pub link-spec : {M : Type 1} → statement M
 link-spec =
     tie.close
-    (tie.spec
-    Inv-loop
-    μ-loop
-    clear-words-requires
-    loop-holds
-    add-r
-    sub-e
-    cast-e
-    mul-from
-    slice-read-from
-    sub-v
-    cast-v
-    mul-after
-    slice-read-after
-    mul-after-2
-    slice-write-after
-    mul-after-3
-    slice-write-after-2
-    sub-k
-    loop-less
-    loop-again
-    same-length
-    returns)
+    (tie.spec Inv-loop μ-loop clear-words-requires loop-holds add-r cast-e sub-e mul-from slice-read-from cast-v sub-v mul-after slice-read-after mul-after-2 slice-write-after mul-after-3 slice-write-after-2 sub-k loop-less loop-again same-length returns)

@@ -68,23 +68,4 @@ returns-2 c = along-end (c .before .loop .inv) (c .loop-test .left)
 pub flag-list-spec : {M : Type 1} → statement M
 flag-list-spec =
     tie.close
-    (tie.spec
-    Inv-loop
-    μ-loop
-    loop-holds
-    sub-k
-    sub-k-2
-    cast-k
-    slice-read-if1
-    same-length
-    returns
-    slice-write-flags
-    add-c
-    sub-j
-    cast-j
-    mul-r
-    shared-slice-read-r
-    loop-less
-    loop-again
-    same-length-2
-    returns-2)
+    (tie.spec Inv-loop μ-loop loop-holds cast-k sub-k sub-k-2 slice-read-if1 same-length returns slice-write-flags add-c cast-j sub-j mul-r shared-slice-read-r loop-less loop-again same-length-2 returns-2)

@@ -59,12 +59,12 @@ cast-i : tie.Need-cast-i
 cast-i c = search needs
 
 -- src/opening.rt:68:18
-mul-t15 : tie.Need-mul-t15
-mul-t15 c = search needs
+mul-t16 : tie.Need-mul-t16
+mul-t16 c = search needs
 
 -- src/opening.rt:68:18
-shared-slice-read-t24 : tie.Need-shared-slice-read-t24
-shared-slice-read-t24 c = let z = c .before .before .before .before .before .before .before .before .before .before .before .before .before .before .before .args in let O = opens (image (z .n) (z .m) (z .after .now) (z .tail .now)) (z .start .0) (z .marks .now) (z .events .now) (c .before .before .before .before .before .before .before .before .before .search-number .ensures (lent (z .n + z .m) (z .marks .now) ∷ lent 3 (z .events .now) ∷ []) (c .before .before .before .before .before .before .before .before .before .before .is-long .ensures ∙ more-lent (z .n + z .m) (z .marks .now) (lent 3 (z .events .now) ∷ []) _ (own-test 3 (z .events .now)))) (c .before .before .before .before .before .before .before .before .if1 .left) in let x = O .start-vertex in omega (arith, O .long-after)
+shared-slice-read-t25 : tie.Need-shared-slice-read-t25
+shared-slice-read-t25 c = let z = c .before .before .before .before .before .before .before .before .before .before .before .before .before .before .before .args in let O = opens (image (z .n) (z .m) (z .after .now) (z .tail .now)) (z .start .0) (z .marks .now) (z .events .now) (c .before .before .before .before .before .before .before .before .before .search-number .ensures (lent (z .n + z .m) (z .marks .now) ∷ lent 3 (z .events .now) ∷ []) (c .before .before .before .before .before .before .before .before .before .before .is-long .ensures ∙ more-lent (z .n + z .m) (z .marks .now) (lent 3 (z .events .now) ∷ []) _ (own-test 3 (z .events .now)))) (c .before .before .before .before .before .before .before .before .if1 .left) in let x = O .start-vertex in omega (arith, O .long-after)
 
 -- src/opening.rt:48:1
 same-length : tie.Need-same-length
@@ -86,18 +86,4 @@ returns-2 c = let z = c .before .before .before .before .before .before .before 
 pub open-spec : {M : Type 1} → statement M
 open-spec =
     tie.close
-    (tie.spec
-    add-nodes
-    is-long-requires
-    search-number-requires
-    no-state-requires
-    refused-requires
-    returns
-    begin-requires
-    sub-i
-    cast-i
-    mul-t15
-    shared-slice-read-t24
-    same-length
-    same-length-2
-    returns-2)
+    (tie.spec add-nodes is-long-requires search-number-requires no-state-requires refused-requires returns begin-requires cast-i sub-i mul-t16 shared-slice-read-t25 same-length same-length-2 returns-2)
