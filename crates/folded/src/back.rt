@@ -24,19 +24,30 @@ pub(crate) fn relink(s: State, after: &mut [u16], made: usize) -> Tried
     ensures { λ r. ⌜ ((tail marks area : List ℕ) → tried r (now (after .exit)) tail marks area ≡ trying (configOf s (now (after .entry)) tail marks) relink made area) ⌝ }
 {
     let f = s.f;
-    let i = (f - 1) as usize;
+    let i = f as usize - 1;
     let w = after[i];
     if w as usize > s.n as usize + s.m as usize {
         return unfit(s, made);
     }
     after[i] = s.e.0;
     let r = Edge(f);
-    let mut t = s;
-    t.e = r;
-    t.f = w;
-    if s.phase != 4 {
-        t.phase = 2;
+    let start = s.start;
+    let at = s.v;
+    let mut phase: u16 = 2;
+    if s.phase == 4 {
+        phase = 4;
     }
+    let t = State {
+        n: s.n,
+        m: s.m,
+        start: start,
+        v: at,
+        e: r,
+        f: w,
+        phase: phase,
+        next: s.next,
+        circular: s.circular,
+    };
     Tried {
         fits: true,
         made: made,
@@ -55,7 +66,7 @@ fn tree_edge(s: State, after: &[u16], tail: &[u16]) -> u16
     if !is_edge(n, m, r) {
         return 0;
     }
-    let j = (r - n - 1) as usize;
+    let j = r as usize - n as usize - 1;
     if tail[j] as usize > n as usize + m as usize {
         return 0;
     }
@@ -80,24 +91,31 @@ pub(crate) fn retreat(
     if r == 0 {
         return unfit(s, made);
     }
-    let i = (r - 1) as usize;
+    let i = r as usize - 1;
     let y = Edge(after[i]);
     if !is_link(n, s.m, y) {
         return unfit(s, made);
     }
-    let k = (v - 1) as usize;
+    let k = v as usize - 1;
     after[k] = s.e.0; // a(v) becomes e at the end of a scan
-    let j = (r - n - 1) as usize;
+    let j = r as usize - n as usize - 1;
     let w = tail[j];
     tail[j] = v;
     after[i] = w;
     write_two(events, made, 6, 0, v, 5, r, f);
     let u = Vertex(f);
-    let mut t = s;
-    t.v = u;
-    t.e = y;
-    t.f = r;
-    t.phase = 1;
+    let start = s.start;
+    let t = State {
+        n: s.n,
+        m: s.m,
+        start: start,
+        v: u,
+        e: y,
+        f: r,
+        phase: 1,
+        next: s.next,
+        circular: s.circular,
+    };
     Tried {
         fits: true,
         made: made + 2,
@@ -114,11 +132,23 @@ pub(crate) fn finish(s: State, after: &mut [u16], events: &mut [u16], made: usiz
     if v != s.start.0 {
         return unfit(s, made);
     }
-    let i = (v - 1) as usize;
+    let i = v as usize - 1;
     after[i] = s.e.0;
     write_one(events, made, 6, 0, v);
-    let mut t = s;
-    t.phase = 3;
+    let start = s.start;
+    let at = s.v;
+    let link = s.e;
+    let t = State {
+        n: s.n,
+        m: s.m,
+        start: start,
+        v: at,
+        e: link,
+        f: s.f,
+        phase: 3,
+        next: s.next,
+        circular: s.circular,
+    };
     Tried {
         fits: true,
         made: made + 1,
@@ -137,17 +167,25 @@ pub(crate) fn undo_tree(s: State, after: &mut [u16], tail: &mut [u16], made: usi
     if r == 0 {
         return unfit(s, made);
     }
-    let k = (v - 1) as usize;
+    let k = v as usize - 1;
     after[k] = s.e.0; // a(v) becomes e in a roll-back
-    let j = (r - n - 1) as usize;
+    let j = r as usize - n as usize - 1;
     let w = tail[j];
     tail[j] = v;
     let u = Vertex(s.f);
     let e = Edge(r);
-    let mut t = s;
-    t.v = u;
-    t.e = e;
-    t.f = w;
+    let start = s.start;
+    let t = State {
+        n: s.n,
+        m: s.m,
+        start: start,
+        v: u,
+        e: e,
+        f: w,
+        phase: s.phase,
+        next: s.next,
+        circular: s.circular,
+    };
     Tried {
         fits: true,
         made: made,
@@ -164,11 +202,23 @@ pub(crate) fn undo_open(s: State, after: &mut [u16], marks: &mut [u16], made: us
     if v != s.start.0 {
         return unfit(s, made);
     }
-    let i = (v - 1) as usize;
+    let i = v as usize - 1;
     after[i] = s.e.0;
     clear(marks, s.n as usize);
-    let mut t = s;
-    t.phase = 5;
+    let start = s.start;
+    let at = s.v;
+    let link = s.e;
+    let t = State {
+        n: s.n,
+        m: s.m,
+        start: start,
+        v: at,
+        e: link,
+        f: s.f,
+        phase: 5,
+        next: s.next,
+        circular: s.circular,
+    };
     Tried {
         fits: true,
         made: made,

@@ -43,19 +43,26 @@ fn tree(
     if !is_link(n, s.m, w) {
         return unfit(s, made);
     }
-    let i = (v - 1) as usize;
+    let i = v as usize - 1;
     after[i] = e;
-    let j = (e - n - 1) as usize;
+    let j = e as usize - n as usize - 1;
     tail[j] = s.f;
-    let k = (x - 1) as usize;
+    let k = x as usize - 1;
     marks[k] = label;
     write_two(events, made, 2, e, v, 1, 0, x);
     let u = Vertex(x);
-    let mut t = s;
-    t.v = u;
-    t.e = w;
-    t.f = v;
-    t.next = label + 1;
+    let start = s.start;
+    let t = State {
+        n: s.n,
+        m: s.m,
+        start: start,
+        v: u,
+        e: w,
+        f: v,
+        phase: s.phase,
+        next: label + 1,
+        circular: s.circular,
+    };
     Tried {
         fits: true,
         made: made + 2,
@@ -70,17 +77,26 @@ fn nontree(s: State, after: &mut [u16], events: &mut [u16], made: usize) -> Trie
 {
     let v = s.v.0;
     let e = s.e.0;
-    let i = (e - 1) as usize;
+    let i = e as usize - 1;
     let w = Edge(after[i]);
     if !is_link(s.n, s.m, w) {
         return unfit(s, made);
     }
     after[i] = s.f;
     write_two(events, made, 3, e, v, 4, e, v);
-    let mut t = s;
-    t.e = w;
-    t.f = e;
-    t.circular = 1;
+    let start = s.start;
+    let at = s.v;
+    let t = State {
+        n: s.n,
+        m: s.m,
+        start: start,
+        v: at,
+        e: w,
+        f: e,
+        phase: s.phase,
+        next: s.next,
+        circular: 1,
+    };
     Tried {
         fits: true,
         made: made + 2,
@@ -101,12 +117,12 @@ pub(crate) fn advance(
     ensures { λ r. ⌜ tried r (now (after .exit)) (now (tail .exit)) (now (marks .exit)) (now (events .exit)) ≡ trying (configOf s (now (after .entry)) (now (tail .entry)) (now (marks .entry))) (onward (configOf s (now (after .entry)) (now (tail .entry)) (now (marks .entry)))) made (now (events .entry)) ⌝ }
 {
     let n = s.n;
-    let j = (s.e.0 - n - 1) as usize;
+    let j = s.e.0 as usize - n as usize - 1;
     let x = tail[j];
     if !is_vertex(n, Vertex(x)) {
         return unfit(s, made);
     }
-    let k = (x - 1) as usize;
+    let k = x as usize - 1;
     if marks[k] == 0 {
         return tree(s, x, after, tail, marks, events, made);
     }

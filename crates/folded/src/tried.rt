@@ -45,7 +45,7 @@ pub(crate) fn read_after(after: &[u16], x: u16, v: u16, e: u16) -> u16
     if x == v {
         return e;
     }
-    let i = (x - 1) as usize;
+    let i = x as usize - 1;
     after[i]
 }
 

@@ -38,8 +38,8 @@ write-one-requires : tie.Need-write-one-requires
 write-one-requires c κs = search needs
 
 -- src/back.rt:118:15
-add-t10 : tie.Need-add-t10
-add-t10 c = search needs
+add-t12 : tie.Need-add-t12
+add-t12 c = search needs
 
 -- src/back.rt:103:1
 same-length : tie.Need-same-length
@@ -51,20 +51,9 @@ same-length-2 c = search needs
 
 -- src/back.rt:103:1
 returns-2 : tie.Need-returns-2
-returns-2 c = λ tail marks. let z = c .before .before .before .before .before .before .before .before .args in finish-made (configOf (z .s) (z .after .now) tail marks) (z .made) (z .events .now) (c .before .before .before .before .if1 .left) (c .before .before .write-one .ensures)
+returns-2 c = λ tail marks. let z = c .before .before .before .before .before .before .before .before .before .before .before .args in finish-made (configOf (z .s) (z .after .now) tail marks) (z .made) (z .events .now) (c .before .before .before .before .before .before .before .if1 .left) (c .before .before .before .before .before .write-one .ensures)
 
 pub finish-spec : {M : Type 1} → statement M
 finish-spec =
     tie.close
-    (tie.spec
-    unfit-requires
-    returns
-    sub-i
-    cast-i
-    mul-after
-    slice-write-after
-    write-one-requires
-    add-t10
-    same-length
-    same-length-2
-    returns-2)
+    (tie.spec unfit-requires returns cast-i sub-i mul-after slice-write-after write-one-requires add-t12 same-length same-length-2 returns-2)

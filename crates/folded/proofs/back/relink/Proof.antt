@@ -66,7 +66,7 @@ same-length c = search needs
 
 -- src/back.rt:22:1
 returns-2 : tie.Need-returns-2
-returns-2 c = λ tail marks area. let z = c .before .before .before .before .before .before .before .args in relink-made (configOf (z .s) (z .after .now) tail marks) (z .made) area (sym (ap relinked (ne-eqb (z .s .phase) 4 (c .if2 .taken)))) (c .before .before .if1 .left)
+returns-2 c = λ tail marks area. let z = c .before .before .before .before .before .before .before .before .before .args in relink-made (configOf (z .s) (z .after .now) tail marks) (z .made) area (sym (ap relinked (eq-eqb (z .s .phase) 4 (c .if2 .taken)))) (c .before .before .before .before .if1 .left)
 
 -- src/back.rt:22:1
 same-length-2 : tie.Need-same-length-2
@@ -74,25 +74,9 @@ same-length-2 c = search needs
 
 -- src/back.rt:22:1
 returns-3 : tie.Need-returns-3
-returns-3 c = λ tail marks area. let z = c .before .before .before .before .before .before .before .args in relink-made (configOf (z .s) (z .after .now) tail marks) (z .made) area (c .if2 .left ∙ sym (ap relinked (eq-eqb (z .s .phase) 4 (c .if2 .left)))) (c .before .before .if1 .left)
+returns-3 c = λ tail marks area. let z = c .before .before .before .before .before .before .before .before .before .args in relink-made (configOf (z .s) (z .after .now) tail marks) (z .made) area (sym (ap relinked (ne-eqb (z .s .phase) 4 (c .if2 .left)))) (c .before .before .before .before .if1 .left)
 
 pub relink-spec : {M : Type 1} → statement M
 relink-spec =
     tie.close
-    (tie.spec
-    sub-i
-    cast-i
-    mul-w
-    slice-read-w
-    cast-if1
-    cast-if1-2
-    cast-if1-3
-    add-if1
-    unfit-requires
-    returns
-    mul-after
-    slice-write-after
-    same-length
-    returns-2
-    same-length-2
-    returns-3)
+    (tie.spec cast-i sub-i mul-w slice-read-w cast-if1 cast-if1-2 cast-if1-3 add-if1 unfit-requires returns mul-after slice-write-after same-length returns-2 same-length-2 returns-3)

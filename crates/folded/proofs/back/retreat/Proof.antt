@@ -44,14 +44,6 @@ sub-i c = search needs
 cast-i : tie.Need-cast-i
 cast-i c = search needs
 
--- src/back.rt:78:18
-mul-k : tie.Need-mul-k
-mul-k c = search needs
-
--- src/back.rt:78:18
-slice-read-k : tie.Need-slice-read-k
-slice-read-k c = let z = c .before .before .before .before .before .before .before .before .args in let U = upward-is (configOf (z .s) (z .after .now) (z .tail .now) []) (c .before .before .tree-edge .ensures []) (c .before .if1 .left) in omega (arith, U .low, U .high, c .before .before .before .before .before .before .before .before .pre .0 .long-after)
-
 -- src/back.rt:79:9
 is-link-requires : tie.Need-is-link-requires
 is-link-requires c κs = search needs
@@ -106,7 +98,7 @@ mul-w c = search needs
 
 -- src/back.rt:85:13
 slice-read-w : tie.Need-slice-read-w
-slice-read-w c = let z = c .before .before .before .before .before .before .before .before .before .before .before .args in let U = upward-is (configOf (z .s) (z .after .now) (z .tail .now) []) (c .before .before .before .before .before .tree-edge .ensures []) (c .before .before .before .before .if1 .left) in omega (arith, U .low, U .high, c .before .before .before .before .before .before .before .before .before .before .before .pre .0 .long-tail)
+slice-read-w c = let z = c .before .before .before .before .before .before .before .before .args in let U = upward-is (configOf (z .s) (z .after .now) (z .tail .now) []) (c .before .before .tree-edge .ensures []) (c .before .if1 .left) in omega (arith, U .low, U .high, c .before .before .before .before .before .before .before .before .pre .0 .long-after)
 
 -- src/back.rt:86:5
 mul-tail : tie.Need-mul-tail
@@ -129,8 +121,8 @@ write-two-requires : tie.Need-write-two-requires
 write-two-requires c κs = search needs
 
 -- src/back.rt:97:15
-add-t23 : tie.Need-add-t23
-add-t23 c = search needs
+add-t28 : tie.Need-add-t28
+add-t28 c = search needs
 
 -- src/back.rt:66:1
 same-length-5 : tie.Need-same-length-5
@@ -146,42 +138,18 @@ same-length-7 c = search needs
 
 -- src/back.rt:66:1
 returns-3 : tie.Need-returns-3
-returns-3 c = λ marks. let z = c .before .before .before .before .before .before .before .before .before .before .before .before .before .before .before .args in let R = c .before .before .before .before .before .before .before .before .before .before .before .before .before .before .before .pre .0 in let w = configOf (z .s) (z .after .now) (z .tail .now) marks in retreat-made w (z .made) (z .events .now) (upward-is w (c .before .before .before .before .before .before .before .before .before .tree-edge .ensures marks) (c .before .before .before .before .before .before .before .before .if1 .left)) (R .v-low) (R .v-high) (sym (c .before .before .before .before .before .before .is-link .ensures) ∙ not-false (c .before .before .before .before .before .before .is-link .result) (c .before .before .before .before .before .if2 .left)) (c .before .before .write-two .ensures)
+returns-3 c = λ marks. let z = c .before .before .before .before .before .before .before .before .before .before .before .before .before .before .before .before .args in let R = c .before .before .before .before .before .before .before .before .before .before .before .before .before .before .before .before .pre .0 in let w = configOf (z .s) (z .after .now) (z .tail .now) marks in retreat-made w (z .made) (z .events .now) (upward-is w (c .before .before .before .before .before .before .before .before .before .before .tree-edge .ensures marks) (c .before .before .before .before .before .before .before .before .before .if1 .left)) (R .v-low) (R .v-high) (sym (c .before .before .before .before .before .before .before .is-link .ensures) ∙ not-false (c .before .before .before .before .before .before .before .is-link .result) (c .before .before .before .before .before .before .if2 .left)) (c .before .before .before .write-two .ensures)
+
+cast-j-2 : tie.Need-cast-j-2
+cast-j-2 c = search needs
+
+mul-w-2 : tie.Need-mul-w-2
+mul-w-2 c = search needs
+
+slice-read-w-2 : tie.Need-slice-read-w-2
+slice-read-w-2 c = let z = c .before .before .before .before .before .before .before .before .before .before .before .args in let U = upward-is (configOf (z .s) (z .after .now) (z .tail .now) []) (c .before .before .before .before .before .tree-edge .ensures []) (c .before .before .before .before .if1 .left) in omega (arith, U .low, U .high, c .before .before .before .before .before .before .before .before .before .before .before .pre .0 .long-tail)
 
 pub retreat-spec : {M : Type 1} → statement M
 retreat-spec =
     tie.close
-    (tie.spec
-    tree-edge-requires
-    unfit-requires
-    same-length
-    same-length-2
-    returns
-    sub-i
-    cast-i
-    mul-k
-    slice-read-k
-    is-link-requires
-    unfit-requires-2
-    same-length-3
-    same-length-4
-    returns-2
-    sub-k
-    cast-k
-    mul-after
-    slice-write-after
-    sub-j
-    sub-j-2
-    cast-j
-    mul-w
-    slice-read-w
-    mul-tail
-    slice-write-tail
-    mul-after-2
-    slice-write-after-2
-    write-two-requires
-    add-t23
-    same-length-5
-    same-length-6
-    same-length-7
-    returns-3)
+    (tie.spec tree-edge-requires unfit-requires same-length same-length-2 returns cast-i sub-i mul-w slice-read-w is-link-requires unfit-requires-2 same-length-3 same-length-4 returns-2 cast-k sub-k mul-after slice-write-after cast-j cast-j-2 sub-j sub-j-2 mul-w-2 slice-read-w-2 mul-tail slice-write-tail mul-after-2 slice-write-after-2 write-two-requires add-t28 same-length-5 same-length-6 same-length-7 returns-3)

@@ -69,21 +69,10 @@ returns-2 c = λ marks. let z = c .before .before .before .before .before .befor
 returns-3 : tie.Need-returns-3
 returns-3 c = λ marks. let z = c .before .before .before .before .before .before .before .args in edge-upward (configOf (z .s) (z .after .now) (z .tail .now) marks) (c .before .before .before .before .read-after .ensures) (sym (c .before .before .before .is-edge .ensures) ∙ not-false (c .before .before .before .is-edge .result) (c .before .before .if1 .left)) (c .if2 .left)
 
+cast-j-2 : tie.Need-cast-j-2
+cast-j-2 c = search needs
+
 pub tree-edge-spec : {M : Type 1} → statement M
 tree-edge-spec =
     tie.close
-    (tie.spec
-    read-after-requires
-    is-edge-requires
-    returns
-    sub-j
-    sub-j-2
-    cast-j
-    mul-if2
-    shared-slice-read-if2
-    cast-if2
-    cast-if2-2
-    cast-if2-3
-    add-if2
-    returns-2
-    returns-3)
+    (tie.spec read-after-requires is-edge-requires returns cast-j cast-j-2 sub-j sub-j-2 mul-if2 shared-slice-read-if2 cast-if2 cast-if2-2 cast-if2-3 add-if2 returns-2 returns-3)

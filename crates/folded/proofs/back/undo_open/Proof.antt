@@ -51,20 +51,9 @@ same-length-2 c = search needs
 
 -- src/back.rt:153:1
 returns-2 : tie.Need-returns-2
-returns-2 c = λ tail area. let z = c .before .before .before .before .before .before .before .before .before .args in undo-open-made (configOf (z .s) (z .after .now) tail (z .marks .now)) (z .made) area (c .before .before .before .before .before .if1 .left) (c .before .before .before .before .before .before .before .before .before .pre .2) (c .before .before .clear .ensures)
+returns-2 c = λ tail area. let z = c .before .before .before .before .before .before .before .before .before .before .before .before .args in undo-open-made (configOf (z .s) (z .after .now) tail (z .marks .now)) (z .made) area (c .before .before .before .before .before .before .before .before .if1 .left) (c .before .before .before .before .before .before .before .before .before .before .before .before .pre .2) (c .before .before .before .before .before .clear .ensures)
 
 pub undo-open-spec : {M : Type 1} → statement M
 undo-open-spec =
     tie.close
-    (tie.spec
-    unfit-requires
-    returns
-    sub-i
-    cast-i
-    mul-after
-    slice-write-after
-    cast-clear
-    clear-requires
-    same-length
-    same-length-2
-    returns-2)
+    (tie.spec unfit-requires returns cast-i sub-i mul-after slice-write-after cast-clear clear-requires same-length same-length-2 returns-2)

@@ -85,28 +85,12 @@ same-length-4 c = search needs
 
 -- src/back.rt:124:1
 returns-2 : tie.Need-returns-2
-returns-2 c = λ marks area. let z = c .before .before .before .before .before .before .before .args in let w = configOf (z .s) (z .after .now) (z .tail .now) marks in undo-tree-made w (z .made) area (upward-is w (c .before .before .tree-edge .ensures marks) (c .before .if1 .left))
+returns-2 c = λ marks area. let z = c .before .before .before .before .before .before .before .before .args in let w = configOf (z .s) (z .after .now) (z .tail .now) marks in undo-tree-made w (z .made) area (upward-is w (c .before .before .before .tree-edge .ensures marks) (c .before .before .if1 .left))
+
+cast-j-2 : tie.Need-cast-j-2
+cast-j-2 c = search needs
 
 pub undo-tree-spec : {M : Type 1} → statement M
 undo-tree-spec =
     tie.close
-    (tie.spec
-    tree-edge-requires
-    unfit-requires
-    same-length
-    same-length-2
-    returns
-    sub-k
-    cast-k
-    mul-after
-    slice-write-after
-    sub-j
-    sub-j-2
-    cast-j
-    mul-w
-    slice-read-w
-    mul-tail
-    slice-write-tail
-    same-length-3
-    same-length-4
-    returns-2)
+    (tie.spec tree-edge-requires unfit-requires same-length same-length-2 returns cast-k sub-k mul-after slice-write-after cast-j cast-j-2 sub-j sub-j-2 mul-w slice-read-w mul-tail slice-write-tail same-length-3 same-length-4 returns-2)

@@ -117,29 +117,10 @@ same-length-6 c = search needs
 returns-3 : tie.Need-returns-3
 returns-3 c = let a = c .before .before .before .before .before .before .before .before .before .before .before .before .before .before .before .before .before .args in let w = configOf (a .s) (a .after .now) (a .tail .now) (a .marks .now) in onward-nontree w (a .made) (a .events .now) (c .before .before .before .before .before .before .before .if2 .left) (c .before .before .before .before .nontree .ensures (a .tail .now) (a .marks .now) (target-vertex w (vertex (c .before .before .before .before .before .before .before .before .before))))
 
+cast-j-2 : tie.Need-cast-j-2
+cast-j-2 c = search needs
+
 pub advance-spec : {M : Type 1} → statement M
 advance-spec =
     tie.close
-    (tie.spec
-    sub-j
-    sub-j-2
-    cast-j
-    mul-x
-    slice-read-x
-    is-vertex-requires
-    unfit-requires
-    returns
-    sub-k
-    cast-k
-    mul-if2
-    slice-read-if2
-    tree-requires
-    same-length
-    same-length-2
-    same-length-3
-    same-length-4
-    returns-2
-    nontree-requires
-    same-length-5
-    same-length-6
-    returns-3)
+    (tie.spec cast-j cast-j-2 sub-j sub-j-2 mul-x slice-read-x is-vertex-requires unfit-requires returns cast-k sub-k mul-if2 slice-read-if2 tree-requires same-length same-length-2 same-length-3 same-length-4 returns-2 nontree-requires same-length-5 same-length-6 returns-3)

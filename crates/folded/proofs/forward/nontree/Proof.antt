@@ -20,12 +20,12 @@ cast-i : tie.Need-cast-i
 cast-i c = search needs
 
 -- src/forward.rt:74:18
-mul-t11 : tie.Need-mul-t11
-mul-t11 c = search needs
+mul-t12 : tie.Need-mul-t12
+mul-t12 c = search needs
 
 -- src/forward.rt:74:18
-slice-read-t10 : tie.Need-slice-read-t10
-slice-read-t10 c = search needs
+slice-read-t14 : tie.Need-slice-read-t14
+slice-read-t14 c = search needs
 
 -- src/forward.rt:75:9
 is-link-requires : tie.Need-is-link-requires
@@ -52,8 +52,8 @@ write-two-requires : tie.Need-write-two-requires
 write-two-requires c κs = search needs
 
 -- src/forward.rt:86:15
-add-t11 : tie.Need-add-t11
-add-t11 c = search needs
+add-t12 : tie.Need-add-t12
+add-t12 c = search needs
 
 -- src/forward.rt:67:1
 same-length : tie.Need-same-length
@@ -65,23 +65,9 @@ same-length-2 c = search needs
 
 -- src/forward.rt:67:1
 returns-2 : tie.Need-returns-2
-returns-2 c = λ tail marks vertex. let a = c .before .before .before .before .before .before .before .before .before .args in nontree-made (configOf (a .s) (a .after .now) tail marks) (a .made) (a .events .now) vertex (sym (c .before .before .before .before .before .is-link .ensures) ∙ not-false _ (c .before .before .before .before .if1 .left)) (c .before .before .write-two .ensures)
+returns-2 c = λ tail marks vertex. let a = c .before .before .before .before .before .before .before .before .before .before .before .args in nontree-made (configOf (a .s) (a .after .now) tail marks) (a .made) (a .events .now) vertex (sym (c .before .before .before .before .before .before .before .is-link .ensures) ∙ not-false _ (c .before .before .before .before .before .before .if1 .left)) (c .before .before .before .before .write-two .ensures)
 
 pub nontree-spec : {M : Type 1} → statement M
 nontree-spec =
     tie.close
-    (tie.spec
-    sub-i
-    cast-i
-    mul-t11
-    slice-read-t10
-    is-link-requires
-    unfit-requires
-    returns
-    mul-after
-    slice-write-after
-    write-two-requires
-    add-t11
-    same-length
-    same-length-2
-    returns-2)
+    (tie.spec cast-i sub-i mul-t12 slice-read-t14 is-link-requires unfit-requires returns mul-after slice-write-after write-two-requires add-t12 same-length same-length-2 returns-2)

@@ -80,10 +80,6 @@ slice-write-tail c = search needs
 sub-k : tie.Need-sub-k
 sub-k c = search needs
 
--- src/forward.rt:50:13
-cast-k : tie.Need-cast-k
-cast-k c = search needs
-
 -- src/forward.rt:51:5
 mul-marks : tie.Need-mul-marks
 mul-marks c = search needs
@@ -96,13 +92,9 @@ slice-write-marks c = search needs
 write-two-requires : tie.Need-write-two-requires
 write-two-requires c κs = search needs
 
--- src/forward.rt:58:14
-add-t : tie.Need-add-t
-add-t c = search needs
-
 -- src/forward.rt:61:15
-add-t23 : tie.Need-add-t23
-add-t23 c = search needs
+add-t20 : tie.Need-add-t20
+add-t20 c = search needs
 
 -- src/forward.rt:23:1
 same-length-2 : tie.Need-same-length-2
@@ -122,37 +114,15 @@ same-length-5 c = search needs
 
 -- src/forward.rt:23:1
 returns-3 : tie.Need-returns-3
-returns-3 c = let a = c .before .before .before .before .before .before .before .before .before .before .before .before .before .args in let p = c .before .before .before .before .before .before .before .before .before .before .before .before .before .pre in tree-made (configOf (a .s) (a .after .now) (a .tail .now) (a .marks .now)) (a .made) (a .events .now) (a .x) (p .2) (p .3) (p .4) (c .before .before .before .before .before .before .before .before .if1 .left) (c .before .before .before .before .before .before .read-after .result) (c .before .before .before .before .before .before .read-after .ensures) (sym (c .before .before .before .before .before .is-link .ensures) ∙ not-false _ (c .before .before .before .before .if2 .left)) (c .before .before .write-two .ensures)
+returns-3 c = let a = c .before .before .before .before .before .before .before .before .before .before .before .before .before .before .args in let p = c .before .before .before .before .before .before .before .before .before .before .before .before .before .before .pre in tree-made (configOf (a .s) (a .after .now) (a .tail .now) (a .marks .now)) (a .made) (a .events .now) (a .x) (p .2) (p .3) (p .4) (c .before .before .before .before .before .before .before .before .before .if1 .left) (c .before .before .before .before .before .before .before .read-after .result) (c .before .before .before .before .before .before .before .read-after .ensures) (sym (c .before .before .before .before .before .before .is-link .ensures) ∙ not-false _ (c .before .before .before .before .before .if2 .left)) (c .before .before .before .write-two .ensures)
+
+cast-j-2 : tie.Need-cast-j-2
+cast-j-2 c = search needs
+
+add-t27 : tie.Need-add-t27
+add-t27 c = search needs
 
 pub tree-spec : {M : Type 1} → statement M
 tree-spec =
     tie.close
-    (tie.spec
-    unfit-requires
-    returns
-    read-after-requires
-    is-link-requires
-    unfit-requires-2
-    same-length
-    returns-2
-    sub-i
-    cast-i
-    mul-after
-    slice-write-after
-    sub-j
-    sub-j-2
-    cast-j
-    mul-tail
-    slice-write-tail
-    sub-k
-    cast-k
-    mul-marks
-    slice-write-marks
-    write-two-requires
-    add-t
-    add-t23
-    same-length-2
-    same-length-3
-    same-length-4
-    same-length-5
-    returns-3)
+    (tie.spec unfit-requires returns read-after-requires is-link-requires unfit-requires-2 same-length returns-2 cast-i sub-i mul-after slice-write-after cast-j cast-j-2 sub-j sub-j-2 mul-tail slice-write-tail sub-k mul-marks slice-write-marks write-two-requires add-t20 add-t27 same-length-2 same-length-3 same-length-4 same-length-5 returns-3)

@@ -13,10 +13,6 @@ returns c = let a = c .before .args in let p = c .before .pre in read-own (a .af
 sub-i : tie.Need-sub-i
 sub-i c = search needs
 
--- src/tried.rt:49:13
-cast-i : tie.Need-cast-i
-cast-i c = search needs
-
 -- src/tried.rt:50:5
 mul-result : tie.Need-mul-result
 mul-result c = search needs
@@ -31,4 +27,4 @@ returns-2 c = let a = c .before .before .args in let p = c .before .before .pre 
 
 pub read-after-spec : {M : Type 1} → statement M
 read-after-spec =
-    tie.close (tie.spec returns sub-i cast-i mul-result shared-slice-read-result returns-2)
+    tie.close (tie.spec returns sub-i mul-result shared-slice-read-result returns-2)
