@@ -25,9 +25,10 @@ use Rattle.folding.specs.Calls.{ended, spent, stuck, ran, taken, refusing, over
 use Rattle.folding.proofs.Fields.{Fields, fields-are}
 use Rattle.folding.proofs.Confined.{Kept, step-kept}
 use Rattle.states.specs.declared.values.State.{State}
+use Rattle.states.specs.declared.values.Reply.{Reply}
 use Rattle.states.specs.declared.values.Reason.{Reason}
 use Rattle.states.specs.declared.values.Reason.the-variants.{Ended, Spent, Stuck}
-use Rattle.states.specs.Answers.{configOf, reasonOf, seenOf, toldRan}
+use Rattle.states.specs.Answers.{configOf, reasonOf, Seen, seenOf, told, toldRan}
 use Rattle.states.proofs.Numbers.{number-first, number-own, serve-refused, serve-taken}
 use Rattle.folded.specs.Steps.{Attempt, trying, out, made, tried, Ready}
 use Rattle.folded.specs.declared.tried.Tried.{Tried}
@@ -124,24 +125,6 @@ module _ (s : State) (after tail marks area : List ℕ) {k : ℕ} (e : k ≡ sta
     pub step-over : over at-step ≡ true → serve at-step (single area) ≡ refusing 9 at-step area
     step-over o = serve-refused at-step (single area) (own-number o refl) (omega arith)
 
-    module _ (o : over at-step ≡ false) (r : Tried) (after′ tail′ marks′ area′ : List ℕ) (t : tried r after′ tail′ marks′ area′ ≡ trying at-step (stepOf at-step) 0 area) where
-      -- The step does not fit.
-      pub step-stuck : r .fits ≡ false → seenOf (refusing 8 (configOf s after′ tail′ marks′) area′) ≡ seenOf (serve at-step (single area))
-      step-stuck h =
-          let T = tried-out at-step 0 area t h in
-          ap (λ (x : Attempt). seenOf (refusing 8 (configOf s (x .config .after) (x .config .tail) (x .config .marks)) (x .area))) (T .1)
-          ∙ ap seenOf (sym (serve-refused at-step (single area) (own-number o (T .0)) (omega arith)))
-
-      -- The step is made.
-      pub step-taken : r .fits ≡ true → record { answer = taken; steps = 1; count = r .made; config = configOf (r .state) after′ tail′ marks′; area = area′ } ≡ seenOf (serve at-step (single area))
-      step-taken h =
-          let T = tried-made at-step 0 area t h in
-          let es = step at-step .events in
-          let c : 0 + length es ≡ length es = omega arith in
-          ap (λ (x : Attempt). record { answer = taken; steps = 1; count = x .count; config = x .config; area = x .area }) (T .1)
-          ∙ (λ i. record { answer = taken; steps = 1; count = c i; config = step at-step .config; area = pasted-front (words es) area i })
-          ∙ ap seenOf (sym (serve-taken at-step (single area) (own-number o (T .0))))
-
 -- ---- a run
 -- Steps made, and their events, in front of a run.
 abbrev behind : ℕ → List Event → Run → Run
@@ -169,6 +152,47 @@ run-stuck k w o c = rw (o, c)
 run-on : (k : ℕ) (w : Config) → over w ≡ false → canStep w ≡ true → run (suc k) w ≡ onward (step w .events) (run k (step w .config))
 unfolding run
 run-on k w o c = rw (o, c)
+
+-- ---- a single step is a run of one
+one-made : (w : Config) → over w ≡ false → canStep w ≡ true → run 1 w ≡ onward (step w .events) (stop (cond (over (step w .config)) ended spent) (step w .config))
+unfolding run
+one-made w o c = rw (o, c)
+
+module _ (s : State) (after tail marks area : List ℕ) {k : ℕ} (e : k ≡ stateNumber (configOf s after tail marks) (workAreas (configOf s after tail marks) 6 area) []) (z : k ≡ 0) (o : over (configOf s after tail marks) ≡ false) (r : Reply) (after′ tail′ marks′ area′ : List ℕ) (d : told r after′ tail′ marks′ area′ ≡ seenOf (perform (configOf s after tail marks) (runFor 1 area))) where
+  abbrev from : Config
+  from = configOf s after tail marks
+
+  -- What is seen of a run of one.
+  abbrev seen : Run → Seen
+  seen x = record { answer = ran (x .reason); steps = x .steps; count = length (x .events); config = x .config; area = overlay (words (x .events)) area }
+
+  makes : canStep from ≡ true → told r after′ tail′ marks′ area′ ≡ seen (onward (step from .events) (stop (cond (over (step from .config)) ended spent) (step from .config)))
+  makes c = d ∙ ap seen (one-made from o c)
+
+  sticks : canStep from ≡ false → told r after′ tail′ marks′ area′ ≡ seen (stop stuck from)
+  sticks c = d ∙ ap seen (run-stuck 0 from o c)
+
+  -- No step was made: it does not fit.
+  pub step-stuck : r .steps ≡ 0 → seenOf (refusing 8 (configOf s after′ tail′ marks′) area′) ≡ seenOf (serve from (single area))
+  step-stuck n = go (canStep from) refl
+    where
+      go : (b : Bool) → canStep from ≡ b → seenOf (refusing 8 (configOf s after′ tail′ marks′) area′) ≡ seenOf (serve from (single area))
+      go true c = absurd (let m : r .steps ≡ 1 = ap (λ (x : Seen). x .steps) (makes c) in omega arith)
+      go false c =
+          ap (λ (x : Seen). seenOf (refusing 8 (configOf s (x .config .after) (x .config .tail) (x .config .marks)) (x .area))) (sticks c)
+          ∙ ap seenOf (sym (serve-refused from (single area) (own-number s after tail marks area e z o c) (omega arith)))
+
+  -- The step is made.
+  pub step-taken : r .steps ≢ 0 → record { answer = taken; steps = 1; count = r .events; config = configOf (r .state) after′ tail′ marks′; area = area′ } ≡ seenOf (serve from (single area))
+  step-taken ne = go (canStep from) refl
+    where
+      go : (b : Bool) → canStep from ≡ b → record { answer = taken; steps = 1; count = r .events; config = configOf (r .state) after′ tail′ marks′; area = area′ } ≡ seenOf (serve from (single area))
+      go true c =
+          let es = step from .events in
+          ap (λ (x : Seen). record { answer = taken; steps = 1; count = x .count; config = x .config; area = x .area }) (makes c)
+          ∙ ap (λ (l : List Event). record { answer = taken; steps = 1; count = length l; config = step from .config; area = overlay (words l) area }) (append-nil es)
+          ∙ ap seenOf (sym (serve-taken from (single area) (own-number s after tail marks area e z o c)))
+      go false c = absurd (ne (ap (λ (x : Seen). x .steps) (sticks c)))
 
 -- Events written behind the events so far.
 written-behind : (es fs : List Event) (area : List ℕ) → 3 * length es ≤ length area → pasted (3 * length es) (words fs) (overlay (words es) area) ≡ overlay (words (es ++ fs)) area

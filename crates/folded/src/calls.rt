@@ -36,38 +36,6 @@ fn are_long(s: State, a: usize, t: usize, k: usize, long: bool) -> bool
     long
 }
 
-// Makes the step to come, with 6 event words. Refused by 1, 2, 3, 4, 8, 9.
-pub fn step(
-    s: State,
-    after: &mut [u16],
-    tail: &mut [u16],
-    marks: &mut [u16],
-    events: &mut [u16],
-) -> Reply
-    ensures { λ r. ⌜ told r (now (after .exit)) (now (tail .exit)) (now (marks .exit)) (now (events .exit)) ≡ seenOf (serve (configOf s (now (after .entry)) (now (tail .entry)) (now (marks .entry))) (single (now (events .entry)))) ⌝ }
-{
-    let long = 6 <= events.len();
-    let all = are_long(s, after.len(), tail.len(), marks.len(), long);
-    let k = state_number(s, all);
-    if k != 0 {
-        return refused(k, s);
-    }
-    if is_over(s) {
-        return refused(9, s);
-    }
-    let t = make(s, after, tail, marks, events, 0);
-    if !t.fits {
-        return refused(8, s);
-    }
-    let u = t.state;
-    Reply {
-        answer: Answer::Taken,
-        steps: 1,
-        events: t.made,
-        state: u,
-    }
-}
-
 // The answer of a run.
 fn ran(why: Reason, steps: u32, made: usize, s: State) -> Reply
     ensures { λ r. ⌜ ((after tail marks area : List ℕ) → told r after tail marks area ≡ toldRan why steps made (configOf s after tail marks) area) ⌝ }
@@ -109,6 +77,38 @@ fn drive(
         t = d.state;
         made = d.made;
         steps += 1;
+    }
+}
+
+// Makes the step to come, with 6 event words: a run of one step. Refused by 1, 2, 3, 4, 8, 9.
+pub fn step(
+    s: State,
+    after: &mut [u16],
+    tail: &mut [u16],
+    marks: &mut [u16],
+    events: &mut [u16],
+) -> Reply
+    ensures { λ r. ⌜ told r (now (after .exit)) (now (tail .exit)) (now (marks .exit)) (now (events .exit)) ≡ seenOf (serve (configOf s (now (after .entry)) (now (tail .entry)) (now (marks .entry))) (single (now (events .entry)))) ⌝ }
+{
+    let long = 6 <= events.len();
+    let all = are_long(s, after.len(), tail.len(), marks.len(), long);
+    let k = state_number(s, all);
+    if k != 0 {
+        return refused(k, s);
+    }
+    if is_over(s) {
+        return refused(9, s);
+    }
+    let r = drive(s, 1, after, tail, marks, events);
+    if r.steps == 0 {
+        return refused(8, s);
+    }
+    let t = r.state;
+    Reply {
+        answer: Answer::Taken,
+        steps: 1,
+        events: r.events,
+        state: t,
     }
 }
 
