@@ -2,11 +2,11 @@
 use mathlib.Core.Path.{_≡_, refl, sym, ap, _∙_}
 use mathlib.Core.Bool.{Bool, true, false, cond, _&&_}
 use mathlib.Core.List.{List, [], _∷_}
-use Prim.Native.Nat.{ℕ, zero, suc, _+_, _-_, _*_, _≤_, _<_}
+use Prim.Native.Nat.{ℕ, zero, suc, _+_, _-_, _*_, _/_, _≤_, _<_, min}
 use native.Mathlib.Omega.{arith}
-use lib.Dec.{leb}
+use lib.Dec.{ltb, leb}
 use lib.ListN.{length, getD, set}
-use borrow.Author.Tests.{leb-true, le-leb, lt-leb}
+use borrow.Author.Tests.{leb-true, leb-false, lt-ltb, le-ltb, le-leb, lt-leb}
 use Rattle.lists.specs.Words.{put, pasted, cleared}
 use Rattle.lists.proofs.Words.{pasted-none, pasted-next}
 use Rattle.lists.proofs.Tests.{both}
@@ -68,11 +68,13 @@ and-none false = refl
 pub no-room-kind : (k : ℕ) (t : List ℕ) (a : ℕ) → 7 < k → false ≡ hasRoom k t a
 no-room-kind k t a h = sym (ap (λ (b : Bool). leb 1 k && (b && (leb (total t) 10000 && leb (3 * total t + 3) a))) (lt-leb k 7 h) ∙ and-none (leb 1 k))
 
-pub no-room-many : (k : ℕ) (t : List ℕ) (a : ℕ) → 1 ≤ k → k ≤ 7 → 10000 < total t → false ≡ hasRoom k t a
-no-room-many k t a l h m = rw (le-leb 1 k l, le-leb k 7 h, lt-leb (total t) 10000 m)
-
-pub room-asks : (k : ℕ) (t : List ℕ) (a : ℕ) → 1 ≤ k → k ≤ 7 → total t ≤ 10000 → leb (3 * total t + 3) a ≡ hasRoom k t a
-room-asks k t a l h m = rw (le-leb 1 k l, le-leb k 7 h, le-leb (total t) 10000 m)
+pub room-asks : (k : ℕ) (t : List ℕ) (a : ℕ) → 1 ≤ k → k ≤ 7 → ltb (total t) (min (a / 3) 10001) ≡ hasRoom k t a
+room-asks k t a l h = go (leb (total t) 10000) (leb (3 * total t + 3) a) refl refl
+  where
+    go : (x y : Bool) → leb (total t) 10000 ≡ x → leb (3 * total t + 3) a ≡ y → ltb (total t) (min (a / 3) 10001) ≡ hasRoom k t a
+    go true true p q = let m = leb-true (total t) 10000 p in let r = leb-true (3 * total t + 3) a q in lt-ltb (total t) (min (a / 3) 10001) (omega arith) ∙ sym (rw (le-leb 1 k l, le-leb k 7 h, p, q))
+    go true false p q = let r = leb-false (3 * total t + 3) a q in le-ltb (total t) (min (a / 3) 10001) (omega arith) ∙ sym (rw (le-leb 1 k l, le-leb k 7 h, p, q))
+    go false y p q = let m = leb-false (total t) 10000 p in le-ltb (total t) (min (a / 3) 10001) (omega arith) ∙ sym (rw (le-leb 1 k l, le-leb k 7 h, p))
 
 -- An event that has no room is not written, and one that has room is.
 module _ (k r u : ℕ) (t events : List ℕ) where

@@ -2,7 +2,7 @@
 // written, and then nothing changes.
 ghost use mathlib.Core.Path.{_≡_};
 ghost use mathlib.Core.List.{[], _∷_};
-ghost use Prim.Native.Nat.{ℕ, min};
+ghost use Prim.Native.Nat.{ℕ, _/_, min};
 ghost use lib.ListN.{length};
 ghost use Rattle.lists.specs.Words.{cleared};
 ghost use Rattle.walks.specs.Writing.{total, hasRoom, tallyAfter, eventsAfter, labelTally, labelMarks, labelEvents, noEvents};
@@ -32,6 +32,17 @@ fn count(tally: [u32; 7]) -> usize
     depth + tally[4] as usize + tally[5] as usize + tally[6] as usize
 }
 
+// How many events an area of a words can hold; no more are asked for than the longest walk has, and one.
+fn most_events(a: usize) -> usize
+    ensures { λ r. ⌜ r ≡ min (a / 3) 10001 ⌝ }
+{
+    let most = a / 3;
+    if most > 10001 {
+        return 10001;
+    }
+    most
+}
+
 // Whether one event more can be written behind those tallied, in an area of a words.
 fn has_room(kind: u16, tally: [u32; 7], a: usize) -> bool
     ensures { λ r. ⌜ r ≡ hasRoom kind tally a ⌝ }
@@ -42,11 +53,7 @@ fn has_room(kind: u16, tally: [u32; 7], a: usize) -> bool
     if kind > 7 {
         return false;
     }
-    let c = count(tally);
-    if c > 10000 {
-        return false;
-    }
-    3 * c + 3 <= a
+    count(tally) < most_events(a)
 }
 
 // Writes one event behind those tallied, and counts it.
