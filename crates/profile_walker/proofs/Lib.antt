@@ -1,0 +1,5 @@
+pub mod Storing
+pub mod Numbers
+pub mod Handing
+pub mod Sizes
+pub mod Opening

@@ -1,0 +1,2 @@
+-- What a controller sees of the calls, in words.
+pub mod Handed

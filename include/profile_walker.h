@@ -1,0 +1,277 @@
+/*
+ * The profile walker, for line controllers.
+ *
+ * Build the library with `rt staticlib profile_walker`; link target/staticlib/libprofile_walker.a.
+ * It needs no other library, allocates nothing, keeps nothing between calls and never blocks.
+ * docs/INTEGRATION.md says in which order to call, and what to do at a jam.
+ *
+ * Elements (vertices) are nodes 1 to n, references (edges) are nodes n+1 to n+m, 0 is null;
+ * n is 1 to 1,000 and m is 0 to 4,000.
+ *
+ * Areas. A pointer that a length follows is a lent area; the length counts its items: 16-bit words, 32-bit
+ * words for a tally, bytes for a text or an output. The comment of a call says how many it needs. An area
+ * that is longer serves as well: after words past n+m, tail words past m, marks past n+m, event words past the
+ * last event and bytes past those printed are never written. No pointer is null, even where its length is 0;
+ * each is aligned for its items; and an area or word that a call may write overlaps no other of that call.
+ * `const` areas are only read. These few things nobody can test from inside, so the library relies on them;
+ * every value in every area may be anything at all.
+ *
+ * Numbers. A call returns 0 where it is taken, else the number with which it is turned back. A call that is
+ * turned back has changed nothing, except that profile_walker_walk_text prints its line. The conditions are
+ * tried in the order given with each call:
+ *
+ *    1  n is 0 or over 1,000
+ *    2  m is over 4,000
+ *    3  a lent area is shorter than stated
+ *    4  the start is not in 1 to n
+ *    5  an after word is neither 0 nor a reference; a first position breaks its rule
+ *    6  a tail, or a from or to in a text, is not in 1 to n
+ *    7  a reference is not on exactly one list, once
+ *    8  a state field, or a word that the move reads, is out of kind
+ *    9  a single move or winding order in phase 3, 5 or 6; accepting in phase 5 or 6
+ *   10  accepting in phase 1, 2 or 4
+ *   11  accepting when the figure is 999,999 or more
+ *   12  a text not in its form
+ *   13  a text over 65,536 bytes
+ */
+#ifndef PROFILE_WALKER_H
+#define PROFILE_WALKER_H
+
+#include <stddef.h>
+#include <stdint.h>
+
+#ifdef __cplusplus
+extern "C" {
+#endif
+
+/* Limits and lengths. */
+enum {
+    PROFILE_WALKER_MAX_N = 1000,
+    PROFILE_WALKER_MAX_M = 4000,
+    PROFILE_WALKER_MAX_TEXT = 65536,  /* bytes */
+    PROFILE_WALKER_MAX_MOVES = 9000,  /* 2m + n at the limits: a run with this budget ends any walk */
+    PROFILE_WALKER_STATE_WORDS = 9,
+    PROFILE_WALKER_TALLY_WORDS = 7,
+    PROFILE_WALKER_OPEN_EVENTS = 3,   /* words for the event of an opening */
+    PROFILE_WALKER_MOVE_EVENTS = 6,   /* words for the events of one move */
+    /* profile_walker_walk_text needs these, whatever the text: */
+    PROFILE_WALKER_TEXT_AFTER = 5000,
+    PROFILE_WALKER_TEXT_TAIL = 4000,
+    PROFILE_WALKER_TEXT_MARKS = 5000,
+    PROFILE_WALKER_TEXT_EVENTS = 54003,
+    PROFILE_WALKER_TEXT_OUTPUT = 180066 /* bytes */
+};
+
+/* The words of a state. */
+enum {
+    PROFILE_WALKER_STATE_N = 0,
+    PROFILE_WALKER_STATE_M = 1,
+    PROFILE_WALKER_STATE_START = 2,
+    PROFILE_WALKER_STATE_V = 3,        /* the element being scanned */
+    PROFILE_WALKER_STATE_E = 4,        /* the reference next to traverse, or 0 */
+    PROFILE_WALKER_STATE_F = 5,        /* the trailer */
+    PROFILE_WALKER_STATE_PHASE = 6,
+    PROFILE_WALKER_STATE_NEXT = 7,     /* the next label number */
+    PROFILE_WALKER_STATE_CIRCULAR = 8  /* 1 where a nontree reference was met, else 0 */
+};
+
+/* Phases. */
+enum {
+    PROFILE_WALKER_WALKING = 1,
+    PROFILE_WALKER_RESTORING = 2,
+    PROFILE_WALKER_ENDED = 3,
+    PROFILE_WALKER_WINDING_BACK = 4,
+    PROFILE_WALKER_WITHDRAWN = 5,
+    PROFILE_WALKER_ACCEPTED = 6
+};
+
+/* Why a run stopped. */
+enum {
+    PROFILE_WALKER_NO_REASON = 0, /* a single move */
+    PROFILE_WALKER_RUN_ENDED = 1, /* phase 3, 5 or 6: there is no move to come */
+    PROFILE_WALKER_RUN_SPENT = 2, /* the budget is spent */
+    PROFILE_WALKER_RUN_STUCK = 3  /* a word that the move to come reads is out of kind; the earlier moves stand */
+};
+
+/* Kinds of event. An event is three words: kind, reference, element. */
+enum {
+    PROFILE_WALKER_LABEL = 1,
+    PROFILE_WALKER_ADVANCE_TREE = 2,
+    PROFILE_WALKER_ADVANCE_NONTREE = 3,
+    PROFILE_WALKER_RETREAT_NONTREE = 4,
+    PROFILE_WALKER_RETREAT_TREE = 5,
+    PROFILE_WALKER_SCAN = 6,
+    PROFILE_WALKER_TRAVERSE = 7
+};
+
+/* ---- Profiles ---- */
+
+/*
+ * Checks a linked image: n+m after words, m tail words. It writes nothing.
+ * 1, 2, 3, 5, 6, 7.
+ */
+uint16_t profile_walker_check_image(uint16_t n, uint16_t m,
+                                    const uint16_t *after, size_t after_words,
+                                    const uint16_t *tail, size_t tail_words);
+
+/*
+ * Reads a profile's text into the areas of a linked image: n+m after words and m tail words, by the n and m of
+ * the text; 5,000 and 4,000 serve every text. *n, *m and *start are set where the text is taken.
+ * 13, 12, 1, 2, 3, 4, 6.
+ */
+uint16_t profile_walker_read_profile(const uint8_t *text, size_t text_bytes,
+                                     uint16_t *after, size_t after_words,
+                                     uint16_t *tail, size_t tail_words,
+                                     uint16_t *n, uint16_t *m, uint16_t *start);
+
+/*
+ * Converts a linked image (n+m after words, m tail words) to array form: n+1 first positions, m tails, and the
+ * reference number of each of the m positions. The references of element u stand at positions firsts[u-1] to
+ * firsts[u]-1, counted from 1.
+ * 1, 2, 3, 5, 6, 7.
+ */
+uint16_t profile_walker_to_array(uint16_t n, uint16_t m,
+                                 const uint16_t *after, size_t after_words,
+                                 const uint16_t *tail, size_t tail_words,
+                                 uint16_t *firsts, size_t firsts_words,
+                                 uint16_t *tails, size_t tails_words,
+                                 uint16_t *numbers, size_t numbers_words);
+
+/*
+ * Prints the folded walk of the profile that a text says, as the program `walk` does: its events, then elements
+ * reached, moves and circular. It needs areas of 5,000, 4,000, 5,000 and 54,003 words and 180,066 bytes,
+ * whatever the text, and leaves what a walk leaves: the links as loaded, the marks, the events from the first
+ * word on. *printed is always set: how many bytes of the output were printed. A text that is turned back prints
+ * one line, as `refused,6`; where the output has no room for the whole line it prints nothing. Nothing else
+ * changes then.
+ * 13, 12, 1, 2, 3, 4, 6.
+ */
+uint16_t profile_walker_walk_text(const uint8_t *text, size_t text_bytes,
+                                  uint16_t *after, size_t after_words,
+                                  uint16_t *tail, size_t tail_words,
+                                  uint16_t *marks, size_t marks_words,
+                                  uint16_t *events, size_t events_words,
+                                  uint8_t *output, size_t output_bytes,
+                                  size_t *printed);
+
+/* ---- Whole walks ----
+ *
+ * Each needs n+m marks, 6(n+m) event words and 7 words for the tally. Marks at the end: 1 for the start, then 2,
+ * 3 and on in order of labelling, 0 for the rest. Event words past the last event stay as they were; the number
+ * of events is the sum of the tally, which counts the events by kind, kind 1 first.
+ */
+
+/* Depth-first, recursive: n+m after words, m tail words. It nests up to n calls: see docs/INTEGRATION.md for the
+ * stack. 1, 2, 3, 4, 5, 6, 7. */
+uint16_t profile_walker_dfs_recursive(uint16_t n, uint16_t m, uint16_t start,
+                                      const uint16_t *after, size_t after_words,
+                                      const uint16_t *tail, size_t tail_words,
+                                      uint16_t *marks, size_t marks_words,
+                                      uint16_t *events, size_t events_words,
+                                      uint32_t *tally, size_t tally_words);
+
+/* Depth-first, with n parent words: at the end the tree reference into each element's parent, 0 for the start, its
+ * children and the unreached. 1, 2, 3, 4, 5, 6, 7. */
+uint16_t profile_walker_dfs_parent(uint16_t n, uint16_t m, uint16_t start,
+                                   const uint16_t *after, size_t after_words,
+                                   const uint16_t *tail, size_t tail_words,
+                                   uint16_t *marks, size_t marks_words,
+                                   uint16_t *parents, size_t parents_words,
+                                   uint16_t *events, size_t events_words,
+                                   uint32_t *tally, size_t tally_words);
+
+/* Depth-first, over the array form: n+1 first positions, m tails, n increments. Events name position p as n+p. The
+ * tails are written while the walk is under way, and are as they were when the call returns. 1, 2, 3, 4, 5, 6. */
+uint16_t profile_walker_dfs_array(uint16_t n, uint16_t m, uint16_t start,
+                                  const uint16_t *firsts, size_t firsts_words,
+                                  uint16_t *tails, size_t tails_words,
+                                  uint16_t *marks, size_t marks_words,
+                                  uint16_t *increments, size_t increments_words,
+                                  uint16_t *events, size_t events_words,
+                                  uint32_t *tally, size_t tally_words);
+
+/* Breadth-first, with n queue words: at the end the labelled elements in order, then 0. 1, 2, 3, 4, 5, 6, 7. */
+uint16_t profile_walker_bfs_queue(uint16_t n, uint16_t m, uint16_t start,
+                                  const uint16_t *after, size_t after_words,
+                                  const uint16_t *tail, size_t tail_words,
+                                  uint16_t *marks, size_t marks_words,
+                                  uint16_t *queue, size_t queue_words,
+                                  uint16_t *events, size_t events_words,
+                                  uint32_t *tally, size_t tally_words);
+
+/* Breadth-first, the queue folded into the links. The after words are written while the walk is under way, and are
+ * as they were when the call returns. 1, 2, 3, 4, 5, 6, 7. */
+uint16_t profile_walker_bfs_folded(uint16_t n, uint16_t m, uint16_t start,
+                                   uint16_t *after, size_t after_words,
+                                   const uint16_t *tail, size_t tail_words,
+                                   uint16_t *marks, size_t marks_words,
+                                   uint16_t *events, size_t events_words,
+                                   uint32_t *tally, size_t tally_words);
+
+/* ---- The folded depth-first walk, move by move ----
+ *
+ * A state is nine words (see above). From the opening to phase 3 or 5 the links are bent, and nobody else writes
+ * links, marks or state.
+ */
+
+/*
+ * Opens a walk: checks the image, clears the n+m marks, labels the start, writes one event (3 words) and the state
+ * (9 words). n+m after words, m tail words.
+ * 1, 2, 3 (all areas, the state's too), 4, 5, 6, 7.
+ */
+uint16_t profile_walker_open(uint16_t n, uint16_t m, uint16_t start,
+                             const uint16_t *after, size_t after_words,
+                             const uint16_t *tail, size_t tail_words,
+                             uint16_t *marks, size_t marks_words,
+                             uint16_t *events, size_t events_words,
+                             uint16_t *state, size_t state_words);
+
+/*
+ * Makes one move. By the state's n and m: n+m after words, m tail words, n+m marks; 6 event words. Where the call
+ * is taken, *steps is 1, *made is the number of events written (0, 1 or 2), *reason is 0.
+ * 3 where the state has fewer than 9 words; then 1, 2, 3, 4, 8, 9.
+ */
+uint16_t profile_walker_step(uint16_t *state, size_t state_words,
+                             uint16_t *after, size_t after_words,
+                             uint16_t *tail, size_t tail_words,
+                             uint16_t *marks, size_t marks_words,
+                             uint16_t *events, size_t events_words,
+                             uint32_t *steps, size_t *made, uint16_t *reason);
+
+/*
+ * Makes moves up to a budget: as profile_walker_step, with 6 event words for each move of the budget. Where the call
+ * is taken, *steps is the number of moves made, *made the number of events written, *reason why it stopped.
+ * 3 where the state has fewer than 9 words; then 1, 2, 3, 4, 8.
+ */
+uint16_t profile_walker_run(uint16_t *state, size_t state_words, uint32_t budget,
+                            uint16_t *after, size_t after_words,
+                            uint16_t *tail, size_t tail_words,
+                            uint16_t *marks, size_t marks_words,
+                            uint16_t *events, size_t events_words,
+                            uint32_t *steps, size_t *made, uint16_t *reason);
+
+/*
+ * Orders the walk to be wound back: phase 4, from which further moves lead to phase 5. It is lent no links.
+ * 3 where the state has fewer than 9 words; then 1, 2, 4, 8, 9.
+ */
+uint16_t profile_walker_roll_back(uint16_t *state, size_t state_words);
+
+/* ---- The panel ----
+ *
+ * The figure is one word, 0 in a new record; only these two calls write it.
+ */
+
+/*
+ * Accepts a state in phase 3: the figure is one more, the phase is 6.
+ * 3 where the state has fewer than 9 words; then 1, 2, 4, 8, 9, 10, 11.
+ */
+uint16_t profile_walker_accept(uint16_t *state, size_t state_words, uint32_t *figure);
+
+/* Starts a shift: the figure is 0. It is never turned back. */
+void profile_walker_shift_start(uint32_t *figure);
+
+#ifdef __cplusplus
+}
+#endif
+
+#endif
