@@ -1,0 +1,93 @@
+//! Measures the proved calls against Rust, in one run, on the same inputs, and prints tables.
+//!
+//! Usage: `bench WALK RUST_WALK`, the two programs that are compared end to end; without them that part is left out.
+
+// The contenders take the areas that the calls take.
+#![allow(clippy::too_many_arguments)]
+
+mod plain;
+mod programs;
+mod same;
+mod shapes;
+mod timing;
+mod walks;
+
+use shapes::Profile;
+use std::path::Path;
+use walks::Row;
+
+const SHAPES: [fn(usize, usize) -> Profile; 4] =
+    [shapes::sparse, shapes::dense, shapes::chain, shapes::star];
+
+/// One line for each call, one column for each shape.
+fn table(title: &str, profiles: &[(Profile, Vec<Row>)], cell: impl Fn(&Row) -> Option<String>) {
+    println!("\n{title}\n");
+    let shapes: Vec<_> = profiles.iter().map(|(profile, _)| profile.shape).collect();
+    println!(
+        "| Call | {} |\n|---|{}",
+        shapes.join(" | "),
+        "---:|".repeat(shapes.len())
+    );
+    for k in 0..profiles[0].1.len() {
+        let cells: Option<Vec<_>> = profiles.iter().map(|(_, rows)| cell(&rows[k])).collect();
+        if let Some(cells) = cells {
+            println!("| `{}` | {} |", profiles[0].1[k].call, cells.join(" | "));
+        }
+    }
+}
+
+fn main() {
+    let programs: Vec<String> = std::env::args().skip(1).collect();
+    let measured: Vec<_> = SHAPES
+        .iter()
+        .map(|shape| {
+            let profile = shape(1000, 4000);
+            let rows = walks::rows(&profile);
+            (profile, rows)
+        })
+        .collect();
+    table(
+        "Time of the proved call, in microseconds (n = 1,000, m = 4,000)",
+        &measured,
+        |row| Some(format!("{:.1}", row.proved / 1000.0)),
+    );
+    table(
+        "Proved, as a multiple of the same algorithm in safe Rust",
+        &measured,
+        |row| Some(format!("{:.2}", row.proved / row.same)),
+    );
+    table(
+        "Proved, as a multiple of the fastest plain search on arrays",
+        &measured,
+        |row| row.plain.map(|plain| format!("{:.1}", row.proved / plain)),
+    );
+
+    println!("\nNanoseconds of the proved call for each reference and element, as n + m grows (sparse)\n");
+    let sizes = [(1, 4), (10, 40), (100, 400), (1000, 4000)];
+    println!(
+        "| Call | {} |\n|---|---:|---:|---:|---:|",
+        sizes.map(|(n, m)| format!("{}", n + m)).join(" | ")
+    );
+    let grown = sizes.map(|(n, m)| walks::rows(&shapes::sparse(n, m)));
+    for k in 0..grown[0].len() {
+        let cells: Vec<_> = grown
+            .iter()
+            .zip(sizes)
+            .map(|(rows, (n, m))| format!("{:.1}", rows[k].proved / (n + m) as f64))
+            .collect();
+        println!("| `{}` | {} |", grown[0][k].call, cells.join(" | "));
+    }
+
+    if let [proved, rust] = programs.as_slice() {
+        println!("\n`walk` end to end, in microseconds, and as a multiple of the Rust program\n");
+        println!("| Profile | `walk` | Rust | ratio |\n|---|---:|---:|---:|");
+        for (profile, _) in &measured {
+            let (ours, theirs) = programs::compare(Path::new(proved), Path::new(rust), profile);
+            println!(
+                "| {} | {ours:.0} | {theirs:.0} | {:.2} |",
+                profile.shape,
+                ours / theirs
+            );
+        }
+    }
+}

@@ -1,0 +1,179 @@
+//! Depth-first search: recursive, by parent edges, and over the array form.
+
+use super::judge;
+use super::log::Log;
+
+struct Search<'a> {
+    n: usize,
+    after: &'a [u16],
+    tail: &'a [u16],
+    marks: &'a mut [u16],
+    log: Log<'a>,
+}
+
+impl Search<'_> {
+    fn search(&mut self, u: u16) {
+        self.log.label(self.marks, u);
+        let mut edge = self.after[usize::from(u) - 1];
+        while edge != 0 {
+            self.traverse(edge, u);
+            edge = self.after[usize::from(edge) - 1];
+        }
+        self.log.emit(6, 0, u);
+    }
+
+    fn traverse(&mut self, edge: u16, u: u16) {
+        let x = self.tail[usize::from(edge) - self.n - 1];
+        if self.marks[usize::from(x) - 1] == 0 {
+            self.log.emit(2, edge, u);
+            self.search(x);
+            self.log.emit(5, edge, u);
+        } else {
+            self.log.emit(3, edge, u);
+            self.log.emit(4, edge, u);
+        }
+    }
+}
+
+pub fn recursive(
+    n: u16,
+    m: u16,
+    start: u16,
+    after: &[u16],
+    tail: &[u16],
+    marks: &mut [u16],
+    events: &mut [u16],
+    tally: &mut [u32; 7],
+) -> u16 {
+    let nodes = usize::from(n) + usize::from(m);
+    let long = marks.len() >= nodes && events.len() >= 6 * nodes;
+    let number = judge::walk(n, m, start, after, tail, long);
+    if number != 0 {
+        return number;
+    }
+    marks[..nodes].fill(0);
+    let mut walk = Search {
+        n: usize::from(n),
+        after: &after[..nodes],
+        tail,
+        marks,
+        log: Log::new(events),
+    };
+    walk.search(start);
+    *tally = walk.log.tally;
+    0
+}
+
+pub fn parent(
+    n: u16,
+    m: u16,
+    start: u16,
+    after: &[u16],
+    tail: &[u16],
+    marks: &mut [u16],
+    parents: &mut [u16],
+    events: &mut [u16],
+    tally: &mut [u32; 7],
+) -> u16 {
+    let vertices = usize::from(n);
+    let nodes = vertices + usize::from(m);
+    let long = marks.len() >= nodes && events.len() >= 6 * nodes && parents.len() >= vertices;
+    let number = judge::walk(n, m, start, after, tail, long);
+    if number != 0 {
+        return number;
+    }
+    marks[..nodes].fill(0);
+    parents[..vertices].fill(0);
+    let mut log = Log::new(events);
+    log.label(marks, start);
+    // v is being scanned, e is the edge next to traverse, f the tree edge into v.
+    let (mut v, mut e, mut f) = (start, after[usize::from(start) - 1], 0);
+    loop {
+        while e != 0 {
+            let x = tail[usize::from(e) - vertices - 1];
+            if marks[usize::from(x) - 1] == 0 {
+                log.emit(2, e, v);
+                log.label(marks, x);
+                parents[usize::from(x) - 1] = f;
+                f = e;
+                v = x;
+                e = after[usize::from(x) - 1];
+            } else {
+                log.emit(3, e, v);
+                log.emit(4, e, v);
+                e = after[usize::from(e) - 1];
+            }
+        }
+        log.emit(6, 0, v);
+        if f == 0 {
+            *tally = log.tally;
+            return 0;
+        }
+        let above = parents[usize::from(v) - 1];
+        v = if above == 0 {
+            start
+        } else {
+            tail[usize::from(above) - vertices - 1]
+        };
+        log.emit(5, f, v);
+        e = after[usize::from(f) - 1];
+        f = above;
+    }
+}
+
+pub fn array(
+    n: u16,
+    m: u16,
+    start: u16,
+    firsts: &[u16],
+    tails: &mut [u16],
+    marks: &mut [u16],
+    increments: &mut [u16],
+    events: &mut [u16],
+    tally: &mut [u32; 7],
+) -> u16 {
+    let vertices = usize::from(n);
+    let nodes = vertices + usize::from(m);
+    let long = marks.len() >= nodes && events.len() >= 6 * nodes && increments.len() >= vertices;
+    let number = judge::array_walk(n, m, start, firsts, tails, long);
+    if number != 0 {
+        return number;
+    }
+    marks[..nodes].fill(0);
+    increments[..vertices].fill(0);
+    let mut log = Log::new(events);
+    log.label(marks, start);
+    increments[usize::from(start) - 1] = 1;
+    // v is being scanned, e is the position next to traverse, u the parent of v.
+    let (mut v, mut e, mut u) = (start, firsts[usize::from(start) - 1], 0);
+    loop {
+        while e < firsts[usize::from(v)] {
+            let x = tails[usize::from(e) - 1];
+            if increments[usize::from(x) - 1] == 0 {
+                log.emit(2, n + e, v);
+                increments[usize::from(v) - 1] = e - firsts[usize::from(v) - 1] + 1;
+                tails[usize::from(e) - 1] = u;
+                log.label(marks, x);
+                increments[usize::from(x) - 1] = 1;
+                u = v;
+                v = x;
+                e = firsts[usize::from(x) - 1];
+            } else {
+                log.emit(3, n + e, v);
+                log.emit(4, n + e, v);
+                e += 1;
+            }
+        }
+        log.emit(6, 0, v);
+        if u == 0 {
+            *tally = log.tally;
+            return 0;
+        }
+        e = firsts[usize::from(u) - 1] + increments[usize::from(u) - 1] - 1;
+        let above = std::mem::replace(&mut tails[usize::from(e) - 1], v);
+        log.emit(5, n + e, u);
+        v = u;
+        e += 1;
+        u = above;
+    }
+}

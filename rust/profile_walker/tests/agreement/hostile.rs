@@ -1,0 +1,375 @@
+//! step, run and roll_back on any words: states out of kind, links and marks of noise, walks with a word changed under
+//! way, areas of any length.
+
+use reference::{move_to_come, ToCome};
+
+use crate::lent::{open, roll_back, run, step, Folded, Opening};
+use crate::profiles::{area, fits, lengths, small, Fit, Sound};
+use crate::rng::Rng;
+use crate::table::Table;
+
+const STEP_MADE: &str = "step, move made";
+const STEP_FAULT: &str = "step, out of kind";
+const RUN_FAULT: &str = "run, stuck at";
+const ALIAS: &str = "step, words met twice";
+
+pub fn compare(table: &mut Table) {
+    let mut rng = Rng::new(6);
+    for _ in 0..300_000 {
+        let lent = noise(&mut rng);
+        calls(table, &mut rng, &lent);
+    }
+    for _ in 0..80_000 {
+        let lent = aliased(&mut rng);
+        calls(table, &mut rng, &lent);
+    }
+    for _ in 0..60_000 {
+        let lent = changed_under_way(table, &mut rng);
+        calls(table, &mut rng, &lent);
+    }
+    for round in 0..80 {
+        let lent = match round % 2 {
+            0 => noise(&mut rng),
+            _ => {
+                let sound = small(&mut rng);
+                under_way(table, &mut rng, &sound)
+            }
+        };
+        if lent.state.len() >= 9 {
+            every_field(table, &mut rng, &lent);
+        }
+    }
+    for _ in 0..600 {
+        every_length(table, &mut rng);
+    }
+    assert_all_met(table);
+}
+
+/// Every move was made, and every word that a move reads was out of kind in each move that reads it.
+fn assert_all_met(table: &Table) {
+    let moves = [
+        "Tree",
+        "Nontree",
+        "Turn",
+        "Close",
+        "LastClose",
+        "WindingClose",
+        "LastWindingClose",
+    ];
+    table.assert_met(STEP_MADE, &moves);
+    let fields = [
+        "FieldV",
+        "FieldE",
+        "FieldF",
+        "FieldPhase",
+        "FieldNextLabel",
+        "FieldCircular",
+    ];
+    table.assert_met(STEP_FAULT, &fields);
+    let words = [
+        "Tail",
+        "Tree, NextLabel",
+        "Tree, TakenIntoE",
+        "Nontree, TakenIntoE",
+        "Turn, TakenIntoF",
+        "Close, AfterOfF",
+        "Close, TakenIntoF",
+        "Close, TakenIntoE",
+        "LastClose, NotTheStart",
+        "WindingClose, AfterOfF",
+        "WindingClose, TakenIntoF",
+        "LastWindingClose, NotTheStart",
+    ];
+    table.assert_met(STEP_FAULT, &words);
+    table.assert_met(RUN_FAULT, &words);
+    let twice = [
+        "tree move to v, taken",
+        "close with f = v and e 0, turned back",
+        "close with f = v and e a reference, taken",
+        "close with f = v and e a reference, turned back",
+    ];
+    table.assert_met(ALIAS, &twice);
+    table.assert_met("run, reason", &["ended", "spent", "stuck"]);
+}
+
+/// A single move, a run and a winding order on the same words.
+fn calls(table: &mut Table, rng: &mut Rng, lent: &Folded) {
+    let coming = move_to_come(&lent.state, &lent.after, &lent.tail, &lent.marks);
+    let (number, _) = step(table, lent);
+    match (number, coming) {
+        (0, Some(to_come)) => table.meet(STEP_MADE, named(to_come)),
+        (8, Some(to_come)) => table.meet(STEP_FAULT, named(to_come)),
+        _ => {}
+    }
+    if matches!(number, 0 | 8) {
+        meet_alias(table, lent, number);
+    }
+
+    let budget = rng.pick(&[0, 1, 2, 3, 7, 20]);
+    let mut words = 6 * budget + rng.pick(&[0, 0, 1, 5]);
+    if rng.one_in(40) && budget > 0 {
+        words = 6 * budget - 1;
+    }
+    let mut long = lent.clone();
+    long.events = rng.noise(words);
+    let (number, left) = run(table, &long, budget as u32);
+    if number == 0 && left.reason == reference::STUCK {
+        let coming = move_to_come(&left.state, &left.after, &left.tail, &left.marks);
+        let coming = coming.expect("a stuck run has a move to come");
+        assert!(coming.fault.is_some());
+        table.meet(RUN_FAULT, named(coming));
+    }
+
+    let (number, wound) = roll_back(table, &lent.state);
+    if number == 0 {
+        // From the order on, a run may wind the hostile links.
+        long.state = wound;
+        run(table, &long, budget as u32);
+    }
+}
+
+/// The move to come and what is out of kind for it, in words.
+fn named(to_come: ToCome) -> String {
+    match (to_come.which, to_come.fault) {
+        (Some(which), Some(fault)) => format!("{which:?}, {fault:?}"),
+        (Some(which), None) => format!("{which:?}"),
+        (None, Some(fault)) => format!("{fault:?}"),
+        (None, None) => String::from("none"),
+    }
+}
+
+/// Counts the moves that read a word they have just stored.
+fn meet_alias(table: &mut Table, lent: &Folded, number: u16) {
+    let [n, m, _, v, e, f, phase, ..] = lent.state[..] else {
+        return;
+    };
+    if phase == 1 && e > n && e <= n + m {
+        let to = lent.tail[usize::from(e - n) - 1];
+        if to == v && v > 0 && v <= n && lent.marks[usize::from(v) - 1] == 0 {
+            if number == 0 {
+                table.meet(ALIAS, "tree move to v, taken");
+            }
+            return;
+        }
+    }
+    let closes = matches!(phase, 2 | 4) || (phase == 1 && e == 0);
+    if closes && f == v && v > 0 && v <= n {
+        let taken = if number == 0 { "taken" } else { "turned back" };
+        let what = if e == 0 { "e 0" } else { "e a reference" };
+        table.meet(ALIAS, format!("close with f = v and {what}, {taken}"));
+    }
+}
+
+/// A state whose fields are mostly in kind, on links and marks of noise.
+fn noise(rng: &mut Rng) -> Folded {
+    let n = rng.between(1, 4);
+    let m = rng.below(7);
+    let nodes = n + m;
+    let extra = rng.below(3);
+    let mut state: Vec<u16> = vec![
+        n as u16,
+        m as u16,
+        rng.between(1, n) as u16,
+        rng.between(1, n) as u16,
+        if m == 0 || rng.one_in(3) {
+            0
+        } else {
+            rng.between(n + 1, nodes) as u16
+        },
+        rng.below(nodes + 1) as u16,
+        rng.pick(&[1, 1, 1, 2, 2, 4, 4, 4, 3, 5, 6]),
+        rng.between(2, n + 1) as u16,
+        rng.below(2) as u16,
+    ];
+    if rng.one_in(5) {
+        let field = rng.below(9);
+        state[field] = rng.node(nodes);
+    }
+    if rng.one_in(30) {
+        state[6] = rng.below(8) as u16;
+    }
+    if rng.one_in(60) {
+        state.truncate(rng.below(9));
+    }
+    let mut after: Vec<u16> = (0..nodes + extra).map(|_| rng.node(nodes)).collect();
+    let mut tail: Vec<u16> = (0..m + extra).map(|_| rng.node(nodes)).collect();
+    let mut marks: Vec<u16> = (0..nodes + extra).map(|_| rng.node(nodes)).collect();
+    for mark in &mut marks {
+        if rng.one_in(2) {
+            *mark = 0;
+        }
+    }
+    let mut events = rng.pick(&[6, 6, 6, 7, 9, 12]);
+    if rng.one_in(60) {
+        match rng.below(4) {
+            0 => after.truncate(nodes - 1),
+            1 => tail.truncate(m.saturating_sub(1)),
+            2 => marks.truncate(nodes - 1),
+            _ => events = rng.below(6),
+        }
+    }
+    Folded {
+        state: state.into(),
+        after: after.into(),
+        tail: tail.into(),
+        marks: marks.into(),
+        events: rng.noise(events),
+        steps: rng.word().into(),
+        made: rng.word().into(),
+        reason: rng.word(),
+    }
+}
+
+/// Noise in which a move reads a word that it has just stored: a tree move to v itself, a close with f = v.
+fn aliased(rng: &mut Rng) -> Folded {
+    loop {
+        let mut lent = noise(rng);
+        let [n, m, _, v, e, _, _, _, _] = lent.state[..] else {
+            continue;
+        };
+        // What is set below has to stand in the lent areas.
+        let (elements, references) = (usize::from(n), usize::from(m));
+        if elements > lent.marks.len() || references > lent.tail.len() || references == 0 {
+            continue;
+        }
+        if v == 0 || v > n || e > n + m || (e != 0 && e <= n) {
+            continue;
+        }
+        if rng.one_in(2) && e != 0 {
+            lent.state[6] = 1;
+            lent.tail[usize::from(e - n) - 1] = v;
+            lent.marks[usize::from(v) - 1] = 0;
+        } else {
+            lent.state[5] = v;
+            lent.state[6] = rng.pick(&[1, 2, 2, 4]);
+            if rng.one_in(3) {
+                lent.state[4] = 0;
+            }
+        }
+        return lent;
+    }
+}
+
+/// A sound walk after any number of moves, with or without a winding order.
+fn under_way(table: &mut Table, rng: &mut Rng, sound: &Sound) -> Folded {
+    let words = sound.nodes();
+    let opening = Opening {
+        n: sound.n,
+        m: sound.m,
+        start: sound.start,
+        after: sound.after.clone().into(),
+        tail: sound.tail.clone().into(),
+        marks: rng.noise(words),
+        events: rng.noise(3),
+        state: rng.noise(9),
+    };
+    let (number, opened) = open(table, &opening);
+    assert_eq!(number, 0);
+    let mut lent = Folded {
+        state: opened.state,
+        after: opened.after,
+        tail: opened.tail,
+        marks: opened.marks,
+        events: rng.noise(6 * 40),
+        steps: 0,
+        made: 0,
+        reason: 0,
+    };
+    lent = run(table, &lent, rng.below(40) as u32).1;
+    if rng.one_in(2) {
+        lent.state = roll_back(table, &lent.state).1;
+        lent = run(table, &lent, rng.below(6) as u32).1;
+    }
+    lent
+}
+
+/// A sound walk in which one or two words were changed by another hand.
+fn changed_under_way(table: &mut Table, rng: &mut Rng) -> Folded {
+    let sound = small(rng);
+    let nodes = sound.nodes();
+    let mut lent = under_way(table, rng, &sound);
+    for _ in 0..rng.between(1, 2) {
+        let word = rng.node(nodes);
+        let areas = [
+            &mut lent.state,
+            &mut lent.after,
+            &mut lent.tail,
+            &mut lent.marks,
+        ];
+        let area = areas.into_iter().nth(rng.below(4)).expect("four areas");
+        if !area.is_empty() {
+            let at = rng.below(area.len());
+            area[at] = word;
+        }
+    }
+    let (number, left) = run(table, &lent, 40);
+    match number {
+        0 => left,
+        _ => lent,
+    }
+}
+
+/// Each field of a state with each value at a limit, in every phase.
+fn every_field(table: &mut Table, rng: &mut Rng, lent: &Folded) {
+    let (n, nodes) = (lent.state[0].min(1_000), lent.after.len() as u16);
+    let values = [
+        0,
+        1,
+        2,
+        6,
+        7,
+        n,
+        n + 1,
+        n + 2,
+        nodes,
+        nodes + 1,
+        999,
+        1_000,
+        1_001,
+        4_000,
+        4_001,
+        32_768,
+        65_535,
+    ];
+    for phase in 0..=7 {
+        for field in 0..9 {
+            for value in values {
+                let mut other = lent.clone();
+                other.state[6] = phase;
+                other.state[field] = value;
+                calls(table, rng, &other);
+            }
+        }
+    }
+}
+
+/// Every way of lending the areas of a sound walk, the state area too.
+fn every_length(table: &mut Table, rng: &mut Rng) {
+    let sound = small(rng);
+    let mut lent = under_way(table, rng, &sound);
+    if rng.one_in(3) {
+        // Which other number would come first or later.
+        let field = rng.below(9);
+        lent.state[field] = rng.node(sound.nodes());
+    }
+    let (words, m) = (sound.nodes(), sound.tail.len());
+    for fit in fits(5) {
+        let budget = rng.below(4);
+        let [state, a, t, marks, events] =
+            lengths(rng, [9, words, m, words, 6 * budget.max(1)], fit);
+        let other = Folded {
+            state: area(rng, &lent.state, state),
+            after: area(rng, &lent.after, a),
+            tail: area(rng, &lent.tail, t),
+            marks: area(rng, &lent.marks, marks),
+            events: rng.noise(events),
+            ..lent.clone()
+        };
+        step(table, &other);
+        run(table, &other, budget as u32);
+        roll_back(table, &other.state);
+        if fit == Fit::Longer {
+            run(table, &other, u32::MAX);
+        }
+    }
+}

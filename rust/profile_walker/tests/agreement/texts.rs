@@ -1,0 +1,332 @@
+//! read_profile and walk_text.
+
+use crate::lent::{read_profile, walk_text, Print, Text};
+use crate::profiles::{fits, lengths, shaped, small, sound, text, Fit};
+use crate::rng::Rng;
+use crate::table::Table;
+
+/// The example that the scope document prints.
+const EXAMPLE: &[u8] = b"elements,references,start\n3,4,1\nfrom,to\n1,2\n1,3\n2,3\n3,1\n";
+
+/// What walk_text needs, whatever the text.
+const NEEDED: [usize; 5] = [5_000, 4_000, 5_000, 54_003, 180_066];
+
+pub fn compare(table: &mut Table) {
+    let mut rng = Rng::new(3);
+    every_change_of_one_byte(table, &mut rng);
+    for _ in 0..6_000 {
+        let sound = small(&mut rng);
+        let text = sound.text();
+        assert_eq!(read(table, &mut rng, &text, Fit::Longer), 0);
+        for _ in 0..6 {
+            let damaged = damaged(&mut rng, &text);
+            read(table, &mut rng, &damaged, Fit::Exact);
+        }
+        for fit in fits(2) {
+            read(table, &mut rng, &text, fit);
+        }
+    }
+    for round in 0..1_500 {
+        let sound = small(&mut rng);
+        let text = sound.text();
+        assert_eq!(print(table, &mut rng, &text, Fit::Exact), 0);
+        let damaged = damaged(&mut rng, &text);
+        print(table, &mut rng, &damaged, Fit::Longer);
+        if round % 20 == 0 {
+            for fit in fits(5) {
+                print(table, &mut rng, &text, fit);
+                print(table, &mut rng, &damaged, fit);
+            }
+        }
+    }
+    for shape in 0..26 {
+        let sound = shaped(&mut rng, shape, 1_000, 4_000);
+        let text = sound.text();
+        assert_eq!(read(table, &mut rng, &text, Fit::Exact), 0);
+        assert_eq!(print(table, &mut rng, &text, Fit::Longer), 0);
+        let damaged = damaged(&mut rng, &text);
+        read(table, &mut rng, &damaged, Fit::Longer);
+        print(table, &mut rng, &damaged, Fit::Exact);
+    }
+    for _ in 0..60 {
+        let sound = sound(&mut rng, 300, 1_000);
+        let text = sound.text();
+        assert_eq!(read(table, &mut rng, &text, Fit::Exact), 0);
+        assert_eq!(print(table, &mut rng, &text, Fit::Exact), 0);
+    }
+    for _ in 0..60 {
+        // More references than there may be, all in good form, and then not.
+        let references = rng.between(4_001, 8_000);
+        let text = text(
+            rng.pick(&[1, 2, 0]),
+            references as u16,
+            1,
+            &vec![(1, 2); references],
+        );
+        read(table, &mut rng, &text, Fit::Longer);
+        let damaged = damaged(&mut rng, &text);
+        read(table, &mut rng, &damaged, Fit::Longer);
+    }
+    values(table, &mut rng);
+    long_texts(table, &mut rng);
+    short_outputs(table, &mut rng);
+}
+
+/// The sizes that a text says, as far as its second line has two numbers.
+fn sizes(text: &[u8]) -> Option<(usize, usize)> {
+    let line = text.split(|&byte| byte == b'\n').nth(1)?;
+    let line = std::str::from_utf8(line).ok()?;
+    let mut values = line.split(',').map(|word| word.parse::<usize>());
+    let n = values.next()?.ok()?;
+    let m = values.next()?.ok()?;
+    (n <= 1_000 && m <= 4_000).then_some((n, m))
+}
+
+/// Reads a text into areas of this fit; the number.
+fn read(table: &mut Table, rng: &mut Rng, text: &[u8], fit: Fit) -> u16 {
+    let (n, m) = sizes(text).unwrap_or((3, 4));
+    let [a, t] = lengths(rng, [n + m, m], fit);
+    let lent = Text {
+        text: text.to_vec().into(),
+        after: rng.noise(a),
+        tail: rng.noise(t),
+        n: rng.word(),
+        m: rng.word(),
+        start: rng.word(),
+    };
+    read_profile(table, &lent).0
+}
+
+/// Prints the walk of a text with areas of this fit; the number.
+fn print(table: &mut Table, rng: &mut Rng, text: &[u8], fit: Fit) -> u16 {
+    let [a, t, marks, events, output] = lengths(rng, NEEDED, fit);
+    print_into(table, rng, text, [a, t, marks, events, output])
+}
+
+fn print_into(table: &mut Table, rng: &mut Rng, text: &[u8], lengths: [usize; 5]) -> u16 {
+    let [a, t, marks, events, output] = lengths;
+    // One word of noise repeated serves areas as long as these.
+    let noise = rng.word();
+    let lent = Print {
+        text: text.to_vec().into(),
+        after: vec![noise; a].into(),
+        tail: vec![noise; t].into(),
+        marks: vec![noise; marks].into(),
+        events: vec![noise; events].into(),
+        output: vec![noise as u8; output].into(),
+        printed: usize::from(rng.word()),
+    };
+    walk_text(table, &lent).0
+}
+
+/// The example with each byte left out, and with each of the 256 bytes put in its place or before it.
+fn every_change_of_one_byte(table: &mut Table, rng: &mut Rng) {
+    assert_eq!(read(table, rng, EXAMPLE, Fit::Exact), 0);
+    assert_eq!(print(table, rng, EXAMPLE, Fit::Exact), 0);
+    for at in 0..=EXAMPLE.len() {
+        for byte in 0..=u8::MAX {
+            let mut inserted = EXAMPLE.to_vec();
+            inserted.insert(at, byte);
+            read(table, rng, &inserted, Fit::Longer);
+            if at < EXAMPLE.len() {
+                let mut replaced = EXAMPLE.to_vec();
+                replaced[at] = byte;
+                read(table, rng, &replaced, Fit::Longer);
+            }
+        }
+        let mut cut = EXAMPLE.to_vec();
+        cut.truncate(at);
+        read(table, rng, &cut, Fit::Longer);
+        if at < EXAMPLE.len() {
+            let mut without = EXAMPLE.to_vec();
+            without.remove(at);
+            read(table, rng, &without, Fit::Longer);
+        }
+    }
+}
+
+/// A text with one thing changed: its form, or a value.
+fn damaged(rng: &mut Rng, text: &[u8]) -> Vec<u8> {
+    let mut lines: Vec<Vec<u8>> = text.split(|&b| b == b'\n').map(<[u8]>::to_vec).collect();
+    // What follows the last line feed.
+    let end = lines.pop().unwrap_or_default();
+    let at = rng.below(lines.len());
+    match rng.below(12) {
+        0 => {
+            lines.remove(at);
+        }
+        1 => lines.insert(at, lines[rng.below(lines.len())].clone()),
+        2 => lines.insert(at, Vec::new()),
+        3 => lines.swap(0, at),
+        4 => lines[at].push(rng.pick(b",\r 0;x")),
+        5 => lines[at].insert(0, rng.pick(b",+- 0x")),
+        6 => {
+            let missing = [&lines.join(&b'\n')[..], &end[..]].concat();
+            return missing;
+        }
+        7 => {
+            let more: &[u8] = rng.pick(&[b"\n" as &[u8], b"x", b"1,1", b"1,1\n", b"\0", b" "]);
+            return [text, more].concat();
+        }
+        _ => {
+            // Another number in a line of values.
+            let at = if lines.len() > 3 && rng.one_in(2) {
+                rng.between(3, lines.len() - 1)
+            } else {
+                1
+            };
+            let line = String::from_utf8_lossy(&lines[at]).into_owned();
+            let mut words: Vec<&str> = line.split(',').collect();
+            let place = rng.below(words.len());
+            words[place] = rng.pick(&[
+                "0",
+                "1",
+                "2",
+                "3",
+                "12",
+                "13",
+                "999",
+                "1000",
+                "1001",
+                "4000",
+                "4001",
+                "5000",
+                "65535",
+                "65536",
+                "99999",
+                "100000",
+                "655350",
+                "01",
+                "00",
+                "00001",
+                "",
+                "-1",
+                "+1",
+                "1 ",
+                " 1",
+                "1.0",
+                "x",
+                "0x1",
+                "18446744073709551617",
+                "\u{661}",
+            ]);
+            lines[at] = words.join(",").into_bytes();
+        }
+    }
+    let mut text = lines.join(&b'\n');
+    text.push(b'\n');
+    [text, end].concat()
+}
+
+/// Values in a good form: each number of the table, and which of them comes first.
+fn values(table: &mut Table, rng: &mut Rng) {
+    let lines = |count: usize, pair: (u16, u16)| vec![pair; count];
+    let good = (1, 1);
+    let cases = [
+        (0, text(1, 0, 1, &[])),
+        (0, text(1_000, 4_000, 1_000, &lines(4_000, (1_000, 1_000)))),
+        (1, text(0, 0, 1, &[])),
+        (1, text(1_001, 0, 1, &[])),
+        (1, text(65_535, 0, 1, &[])),
+        (2, text(1, 4_001, 1, &lines(4_001, good))),
+        (2, text(1_000, 5_000, 1, &lines(5_000, good))),
+        (12, text(1, 4_001, 1, &lines(4_000, good))),
+        (12, text(1, 4_001, 1, &lines(4_002, good))),
+        (12, text(1, 65_535, 1, &lines(4_000, good))),
+        (1, text(0, 4_001, 0, &lines(4_001, (0, 0)))),
+        (2, text(1, 4_001, 0, &lines(4_001, (0, 0)))),
+        (4, text(2, 1, 0, &[(0, 3)])),
+        (4, text(2, 1, 3, &[(1, 1)])),
+        (4, text(2, 1, 65_535, &[(1, 1)])),
+        (6, text(2, 1, 2, &[(0, 1)])),
+        (6, text(2, 1, 2, &[(1, 0)])),
+        (6, text(2, 1, 2, &[(3, 1)])),
+        (6, text(2, 2, 2, &[(1, 1), (1, 65_535)])),
+        (12, [&text(2, 2, 2, &[(3, 1)])[..], b"x\n"].concat()),
+        (12, Vec::new()),
+        (12, b"\n".to_vec()),
+        (12, b"elements,references,start\n1,0,1\nfrom;to\n".to_vec()),
+        (12, b"elements,references,start\n1,0,1\nfrom,to".to_vec()),
+        (12, b"elements,references,start\n1,0\nfrom,to\n".to_vec()),
+        (
+            12,
+            b"elements,references,start\n1,0,1,1\nfrom,to\n".to_vec(),
+        ),
+        (
+            12,
+            b"elements,references,start\n1,0,65536\nfrom,to\n".to_vec(),
+        ),
+        (12, b"elements,references,start\n01,0,1\nfrom,to\n".to_vec()),
+        (
+            12,
+            b"elements,references,start\r\n1,0,1\r\nfrom,to\r\n".to_vec(),
+        ),
+    ];
+    for (number, text) in &cases {
+        assert_eq!(read(table, rng, text, Fit::Longer), *number);
+        assert_eq!(print(table, rng, text, Fit::Exact), *number);
+    }
+    // A short area comes after the form and the sizes, and before start, from and to.
+    let bad_start = text(2, 1, 0, &[(0, 3)]);
+    for fit in [Fit::Short(0), Fit::Short(1), Fit::Empty(0), Fit::Empty(1)] {
+        assert_eq!(read(table, rng, &bad_start, fit), 3);
+        assert_eq!(print(table, rng, &bad_start, fit), 3);
+        let bad_n = text(0, 1, 0, &[(0, 3)]);
+        assert_eq!(read(table, rng, &bad_n, fit), 1);
+        assert_eq!(print(table, rng, &bad_n, fit), 1);
+    }
+}
+
+/// A good form of exactly so many bytes, which needs more than 4,000 references.
+fn form_of(bytes: usize, n: u16, references: usize) -> Vec<u8> {
+    let mut pairs: Vec<(u16, u16)> = vec![(1, 1); references];
+    let mut made = text(n, references as u16, 1, &pairs);
+    let mut missing = bytes - made.len();
+    for pair in &mut pairs {
+        let digits = missing.min(4);
+        pair.0 = [1, 10, 100, 1_000, 10_000][digits];
+        missing -= digits;
+    }
+    made = text(n, references as u16, 1, &pairs);
+    assert_eq!(made.len(), bytes);
+    made
+}
+
+/// Texts around 65,536 bytes.
+fn long_texts(table: &mut Table, rng: &mut Rng) {
+    let cases = [
+        (2, form_of(65_535, 1, 10_000)),
+        (2, form_of(65_536, 1, 10_000)),
+        (1, form_of(65_536, 0, 10_000)),
+        (13, form_of(65_537, 1, 10_000)),
+        (13, form_of(65_537, 0, 10_000)),
+        (12, vec![b'1'; 65_536]),
+        (13, vec![b'1'; 65_537]),
+        (13, vec![b'\n'; 200_000]),
+        (12, [EXAMPLE, &vec![b'\n'; 65_536 - EXAMPLE.len()]].concat()),
+        (13, [EXAMPLE, &vec![b'\n'; 65_537 - EXAMPLE.len()]].concat()),
+    ];
+    for (number, text) in &cases {
+        for fit in [Fit::Longer, Fit::Empty(0)] {
+            assert_eq!(read(table, rng, text, fit), *number);
+            assert_eq!(print(table, rng, text, fit), *number);
+        }
+    }
+}
+
+/// An output that has no room for the line of a refusal, or just room.
+fn short_outputs(table: &mut Table, rng: &mut Rng) {
+    let [a, t, marks, events, needed] = NEEDED;
+    let texts = [
+        EXAMPLE.to_vec(),
+        text(2, 1, 3, &[(1, 1)]),
+        text(0, 1, 3, &[(1, 1)]),
+        b"x".to_vec(),
+        vec![0; 65_537],
+    ];
+    for text in &texts {
+        for output in (0..16).chain([needed - 1, needed, needed + 1]) {
+            print_into(table, rng, text, [a, t, marks, events, output]);
+        }
+    }
+}

@@ -1,0 +1,97 @@
+//! The profiles of the vectors.
+
+use profile_walker::read_profile;
+
+pub struct Profile {
+    pub name: &'static str,
+    pub n: u16,
+    pub m: u16,
+    pub start: u16,
+    pub after: Vec<u16>,
+    pub tail: Vec<u16>,
+    pub text: String,
+}
+
+impl Profile {
+    fn new(name: &'static str, n: u16, start: u16, lines: &[(u16, u16)]) -> Self {
+        let mut text = format!(
+            "elements,references,start\n{n},{},{start}\nfrom,to\n",
+            lines.len()
+        );
+        for (from, to) in lines {
+            text.push_str(&format!("{from},{to}\n"));
+        }
+        let mut after = vec![0; usize::from(n) + lines.len()];
+        let mut tail = vec![0; lines.len()];
+        let read = read_profile(text.as_bytes(), &mut after, &mut tail).expect("a sound profile");
+        Profile {
+            name,
+            n: read.n,
+            m: read.m,
+            start: read.start,
+            after,
+            tail,
+            text,
+        }
+    }
+
+    /// As many moves as the longest walk of a profile of this size makes.
+    pub fn most_moves(&self) -> u32 {
+        2 * u32::from(self.m) + u32::from(self.n)
+    }
+}
+
+/// References by chance; every element is reached from element 1.
+fn drawn(n: u16, m: u16) -> Vec<(u16, u16)> {
+    let mut x = 0x9e37_79b9_7f4a_7c15_u64;
+    let mut below = |bound: u16| {
+        x ^= x << 13;
+        x ^= x >> 7;
+        x ^= x << 17;
+        (x % u64::from(bound)) as u16
+    };
+    let mut lines: Vec<_> = (1..n).map(|u| (below(u) + 1, u + 1)).collect();
+    while lines.len() < usize::from(m) {
+        lines.push((below(n) + 1, below(n) + 1));
+    }
+    for k in (1..lines.len()).rev() {
+        lines.swap(k, usize::from(below(k as u16 + 1)));
+    }
+    lines
+}
+
+/// The small profiles; each of them is walked in every way.
+pub fn small() -> Vec<Profile> {
+    let chain: Vec<_> = (1..10).map(|u| (u, u + 1)).collect();
+    let star: Vec<_> = (2..=10).chain(2..=10).map(|x| (1, x)).collect();
+    let dense: Vec<_> = (1..=6).flat_map(|u| (1..=6).map(move |x| (u, x))).collect();
+    vec![
+        Profile::new("printed", 3, 1, &[(1, 2), (1, 3), (2, 3), (3, 1)]),
+        Profile::new("one", 1, 1, &[]),
+        Profile::new("loop", 1, 1, &[(1, 1)]),
+        Profile::new("unreached", 2, 1, &[(1, 1)]),
+        Profile::new("twice", 2, 1, &[(1, 2), (1, 2)]),
+        Profile::new(
+            "shared",
+            5,
+            1,
+            &[(1, 2), (1, 3), (2, 4), (3, 4), (3, 5), (4, 5)],
+        ),
+        Profile::new("circle", 4, 1, &[(1, 2), (2, 3), (3, 4), (4, 1)]),
+        Profile::new(
+            "start",
+            4,
+            3,
+            &[(4, 2), (3, 4), (1, 3), (2, 3), (3, 2), (4, 4)],
+        ),
+        Profile::new("chain", 10, 1, &chain),
+        Profile::new("star", 10, 1, &star),
+        Profile::new("dense", 6, 1, &dense),
+        Profile::new("drawn", 20, 1, &drawn(20, 50)),
+    ]
+}
+
+/// The largest profile.
+pub fn largest() -> Profile {
+    Profile::new("largest", 1000, 1, &drawn(1000, 4000))
+}
