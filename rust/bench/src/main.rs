@@ -36,6 +36,31 @@ fn table(title: &str, profiles: &[(Profile, Vec<Row>)], cell: impl Fn(&Row) -> O
     }
 }
 
+/// The proved calls on profiles of one shape, each ten times as large as the one before, up to the limits.
+fn growth(shape: fn(usize, usize) -> Profile) {
+    let sizes = [(1, 4), (10, 40), (100, 400), (1000, 4000)];
+    let grown = sizes.map(|(n, m)| (shape(n, m), n + m));
+    println!(
+        "\nNanoseconds of the proved call for each element and reference, as n + m grows ({})\n",
+        grown[0].0.shape
+    );
+    let nodes = grown.each_ref().map(|(_, nodes)| nodes.to_string());
+    println!(
+        "| Call | {} |\n|---|{}",
+        nodes.join(" | "),
+        "---:|".repeat(nodes.len())
+    );
+    let rows = grown.each_ref().map(|(profile, _)| walks::rows(profile));
+    for k in 0..rows[0].len() {
+        let cells: Vec<_> = rows
+            .iter()
+            .zip(&grown)
+            .map(|(rows, (_, nodes))| format!("{:.1}", rows[k].proved / *nodes as f64))
+            .collect();
+        println!("| `{}` | {} |", rows[0][k].call, cells.join(" | "));
+    }
+}
+
 fn main() {
     let programs: Vec<String> = std::env::args().skip(1).collect();
     let measured: Vec<_> = SHAPES
@@ -62,20 +87,8 @@ fn main() {
         |row| row.plain.map(|plain| format!("{:.1}", row.proved / plain)),
     );
 
-    println!("\nNanoseconds of the proved call for each reference and element, as n + m grows (sparse)\n");
-    let sizes = [(1, 4), (10, 40), (100, 400), (1000, 4000)];
-    println!(
-        "| Call | {} |\n|---|---:|---:|---:|---:|",
-        sizes.map(|(n, m)| format!("{}", n + m)).join(" | ")
-    );
-    let grown = sizes.map(|(n, m)| walks::rows(&shapes::sparse(n, m)));
-    for k in 0..grown[0].len() {
-        let cells: Vec<_> = grown
-            .iter()
-            .zip(sizes)
-            .map(|(rows, (n, m))| format!("{:.1}", rows[k].proved / (n + m) as f64))
-            .collect();
-        println!("| `{}` | {} |", grown[0][k].call, cells.join(" | "));
+    for shape in [shapes::sparse, shapes::chain] {
+        growth(shape);
     }
 
     if let [proved, rust] = programs.as_slice() {

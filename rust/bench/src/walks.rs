@@ -34,16 +34,16 @@ impl Areas {
     }
 
     /// All that a call may have written.
-    fn left(&self) -> (&[u16], &[u16], &[u16], &[u16], &[u16], &[u16], &[u32; 7]) {
-        (
+    fn left(&self) -> ([&[u16]; 6], &[u32; 7]) {
+        let words = [
             &self.after,
             &self.tail,
             &self.tails,
             &self.marks,
             &self.own,
             &self.events,
-            &self.tally,
-        )
+        ];
+        (words.map(Vec::as_slice), &self.tally)
     }
 }
 
