@@ -16,13 +16,17 @@ use shapes::Profile;
 use std::path::Path;
 use walks::Row;
 
-const SHAPES: [fn(usize, usize) -> Profile; 4] =
+const SHAPES: [fn(usize, usize) -> Vec<Profile>; 4] =
     [shapes::sparse, shapes::dense, shapes::chain, shapes::star];
 
 /// One line for each call, one column for each shape.
-fn table(title: &str, profiles: &[(Profile, Vec<Row>)], cell: impl Fn(&Row) -> Option<String>) {
+fn table(
+    title: &str,
+    profiles: &[(Vec<Profile>, Vec<Row>)],
+    cell: impl Fn(&Row) -> Option<String>,
+) {
     println!("\n{title}\n");
-    let shapes: Vec<_> = profiles.iter().map(|(profile, _)| profile.shape).collect();
+    let shapes: Vec<_> = profiles.iter().map(|(all, _)| all[0].shape).collect();
     println!(
         "| Call | {} |\n|---|{}",
         shapes.join(" | "),
@@ -37,12 +41,12 @@ fn table(title: &str, profiles: &[(Profile, Vec<Row>)], cell: impl Fn(&Row) -> O
 }
 
 /// The proved calls on profiles of one shape, each ten times as large as the one before, up to the limits.
-fn growth(shape: fn(usize, usize) -> Profile) {
+fn growth(shape: fn(usize, usize) -> Vec<Profile>) {
     let sizes = [(1, 4), (10, 40), (100, 400), (1000, 4000)];
     let grown = sizes.map(|(n, m)| (shape(n, m), n + m));
     println!(
         "\nNanoseconds of the proved call for each element and reference, as n + m grows ({})\n",
-        grown[0].0.shape
+        grown[0].0[0].shape
     );
     let nodes = grown.each_ref().map(|(_, nodes)| nodes.to_string());
     println!(
@@ -50,7 +54,7 @@ fn growth(shape: fn(usize, usize) -> Profile) {
         nodes.join(" | "),
         "---:|".repeat(nodes.len())
     );
-    let rows = grown.each_ref().map(|(profile, _)| walks::rows(profile));
+    let rows = grown.each_ref().map(|(profiles, _)| walks::rows(profiles));
     for k in 0..rows[0].len() {
         let cells: Vec<_> = rows
             .iter()
@@ -66,9 +70,9 @@ fn main() {
     let measured: Vec<_> = SHAPES
         .iter()
         .map(|shape| {
-            let profile = shape(1000, 4000);
-            let rows = walks::rows(&profile);
-            (profile, rows)
+            let profiles = shape(1000, 4000);
+            let rows = walks::rows(&profiles);
+            (profiles, rows)
         })
         .collect();
     table(
@@ -94,7 +98,7 @@ fn main() {
     if let [proved, rust] = programs.as_slice() {
         println!("\n`walk` end to end, in microseconds, and as a multiple of the Rust program\n");
         println!("| Profile | `walk` | Rust | ratio |\n|---|---:|---:|---:|");
-        for (profile, _) in &measured {
+        for profile in measured.iter().map(|(profiles, _)| &profiles[0]) {
             let (ours, theirs) = programs::compare(Path::new(proved), Path::new(rust), profile);
             println!(
                 "| {} | {ours:.0} | {theirs:.0} | {:.2} |",

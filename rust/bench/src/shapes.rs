@@ -13,10 +13,6 @@ pub struct Profile {
 }
 
 impl Profile {
-    pub fn nodes(&self) -> usize {
-        self.after.len()
-    }
-
     fn new(shape: &'static str, n: u16, lines: &[(u16, u16)]) -> Self {
         let (size, m) = (usize::from(n), lines.len());
         let mut lists = vec![Vec::new(); size];
@@ -65,9 +61,9 @@ impl Chance {
     }
 }
 
-/// A tree by chance, and references by chance.
-pub fn sparse(n: usize, m: usize) -> Profile {
-    let mut chance = Chance(0x9e37_79b9_7f4a_7c15);
+/// A tree by chance, and references by chance; another profile for each seed.
+fn sparse_by(n: usize, m: usize, seed: u64) -> Profile {
+    let mut chance = Chance(0x9e37_79b9_7f4a_7c15 ^ seed);
     let mut lines: Vec<_> = (1..n)
         .map(|u| (chance.element(u), (u + 1) as u16))
         .collect();
@@ -80,8 +76,13 @@ pub fn sparse(n: usize, m: usize) -> Profile {
     Profile::new("sparse", n as u16, &lines)
 }
 
+/// Sixteen profiles by chance. A call meets them in turn, so that no processor learns one of them by heart.
+pub fn sparse(n: usize, m: usize) -> Vec<Profile> {
+    (0..16).map(|seed| sparse_by(n, m, seed)).collect()
+}
+
 /// A core whose elements all refer to each other; the others hang on it.
-pub fn dense(n: usize, m: usize) -> Profile {
+pub fn dense(n: usize, m: usize) -> Vec<Profile> {
     let mut core = 1;
     while (core + 1) * (core + 1) + n <= m && core < n {
         core += 1;
@@ -99,25 +100,25 @@ pub fn dense(n: usize, m: usize) -> Profile {
         let k = lines.len();
         lines.push(((k % core + 1) as u16, (k / core % core + 1) as u16));
     }
-    Profile::new("dense", n as u16, &lines[..m])
+    vec![Profile::new("dense", n as u16, &lines[..m])]
 }
 
 /// Each element refers to the next; the other references lead back.
-pub fn chain(n: usize, m: usize) -> Profile {
+pub fn chain(n: usize, m: usize) -> Vec<Profile> {
     let mut chance = Chance(0x2545_f491_4f6c_dd1d);
     let mut lines: Vec<_> = (1..n).map(|u| (u as u16, (u + 1) as u16)).collect();
     while lines.len() < m {
         let from = lines.len() % n + 1;
         lines.push((from as u16, chance.element(from)));
     }
-    Profile::new("chain", n as u16, &lines)
+    vec![Profile::new("chain", n as u16, &lines)]
 }
 
 /// The start refers to every other element, over and over.
-pub fn star(n: usize, m: usize) -> Profile {
+pub fn star(n: usize, m: usize) -> Vec<Profile> {
     let others = (n - 1).max(1);
     let lines: Vec<_> = (0..m)
         .map(|k| (1, ((k % others + 1) % n + 1) as u16))
         .collect();
-    Profile::new("star", n as u16, &lines)
+    vec![Profile::new("star", n as u16, &lines)]
 }

@@ -1,4 +1,4 @@
-//! Each call on one profile: the proved one, the same algorithm in safe Rust, and the fastest plain search on arrays.
+//! Each call on profiles of one shape: the proved one, the same algorithm in safe Rust, and the fastest plain search on arrays.
 
 use crate::plain::Plain;
 use crate::same;
@@ -6,39 +6,55 @@ use crate::shapes::Profile;
 use crate::timing::times;
 use profile_walker as proved;
 
-/// Areas of one contender. They are lent again as the call before left them; nothing clears them in between.
+/// Areas of one contender: the links of each profile, and the areas that its calls write. They are lent again as the
+/// call before left them; nothing clears them in between.
 struct Areas {
-    after: Vec<u16>,
-    tail: Vec<u16>,
-    firsts: Vec<u16>,
-    tails: Vec<u16>,
+    links: Vec<Links>,
+    at: usize,
     marks: Vec<u16>,
     own: Vec<u16>,
     events: Vec<u16>,
     tally: [u32; 7],
 }
 
+struct Links {
+    after: Vec<u16>,
+    tail: Vec<u16>,
+    firsts: Vec<u16>,
+    tails: Vec<u16>,
+}
+
 impl Areas {
-    fn new(profile: &Profile) -> Self {
-        let moves = 2 * usize::from(profile.m) + usize::from(profile.n);
-        Areas {
+    fn new(profiles: &[Profile]) -> Self {
+        let (n, m) = (usize::from(profiles[0].n), usize::from(profiles[0].m));
+        let links = profiles.iter().map(|profile| Links {
             after: profile.after.clone(),
             tail: profile.tail.clone(),
             firsts: profile.firsts.clone(),
             tails: profile.tails.clone(),
-            marks: vec![0; profile.nodes()],
-            own: vec![0; usize::from(profile.n)],
-            events: vec![0; (6 * profile.nodes()).max(3 + 6 * moves)],
+        });
+        Areas {
+            links: links.collect(),
+            at: 0,
+            marks: vec![0; n + m],
+            own: vec![0; n],
+            events: vec![0; (6 * (n + m)).max(3 + 6 * (2 * m + n))],
             tally: [0; 7],
         }
     }
 
+    /// The next profile's turn.
+    fn turn(&mut self) {
+        self.at = (self.at + 1) % self.links.len();
+    }
+
     /// All that a call may have written.
     fn left(&self) -> ([&[u16]; 6], &[u32; 7]) {
+        let links = &self.links[self.at];
         let words = [
-            &self.after,
-            &self.tail,
-            &self.tails,
+            &links.after,
+            &links.tail,
+            &links.tails,
             &self.marks,
             &self.own,
             &self.events,
@@ -63,28 +79,45 @@ pub struct Row {
     pub plain: Option<f64>,
 }
 
+/// A call on the profile whose turn it is, by its sizes.
+type Call = fn(u16, u16, &mut Areas);
+
 fn measure(
-    profile: &Profile,
+    profiles: &[Profile],
     call: &'static str,
     search: Search,
-    proved: fn(&Profile, &mut Areas),
-    same: fn(&Profile, &mut Areas),
+    proved: Call,
+    same: Call,
 ) -> Row {
-    let (mut ours, mut theirs) = (Areas::new(profile), Areas::new(profile));
-    proved(profile, &mut ours);
-    same(profile, &mut theirs);
-    assert!(
-        ours.left() == theirs.left(),
-        "{call}, {}: the two differ",
-        profile.shape
-    );
-    let mut plain = Plain::new(profile);
-    let mut first = || proved(profile, &mut ours);
-    let mut second = || same(profile, &mut theirs);
-    let mut third = || match search {
-        Search::None => {}
-        Search::Depth => assert_eq!(plain.depth_first(), u32::from(profile.n)),
-        Search::Breadth => assert_eq!(plain.breadth_first(), u32::from(profile.n)),
+    let (n, m, shape) = (profiles[0].n, profiles[0].m, profiles[0].shape);
+    let (mut ours, mut theirs) = (Areas::new(profiles), Areas::new(profiles));
+    for _ in profiles {
+        proved(n, m, &mut ours);
+        same(n, m, &mut theirs);
+        assert!(
+            ours.left() == theirs.left(),
+            "{call}, {shape}: the two differ"
+        );
+        ours.turn();
+        theirs.turn();
+    }
+    let mut plain: Vec<Plain> = profiles.iter().map(Plain::new).collect();
+    let mut at = 0;
+    let mut first = || {
+        ours.turn();
+        proved(n, m, &mut ours);
+    };
+    let mut second = || {
+        theirs.turn();
+        same(n, m, &mut theirs);
+    };
+    let mut third = || {
+        at = (at + 1) % plain.len();
+        match search {
+            Search::None => {}
+            Search::Depth => assert_eq!(plain[at].depth_first(), u32::from(n)),
+            Search::Breadth => assert_eq!(plain[at].breadth_first(), u32::from(n)),
+        }
     };
     let [proved, same, plain] = times(&mut [&mut first, &mut second, &mut third]);
     Row {
@@ -96,235 +129,173 @@ fn measure(
 }
 
 /// The plain searches label as the proved ones do.
-fn plain_agrees(profile: &Profile) {
-    let (p, mut a, mut plain) = (profile, Areas::new(profile), Plain::new(profile));
-    let agrees =
-        |labels: &[u32], marks: &[u16]| labels.iter().zip(marks).all(|(&x, &y)| x == u32::from(y));
-    proved::dfs_recursive(p.n, p.m, 1, &a.after, &a.tail, &mut a.marks, &mut a.events).unwrap();
-    plain.depth_first();
-    assert!(agrees(plain.labels(), &a.marks));
-    proved::bfs_queue(
-        p.n,
-        p.m,
-        1,
-        &a.after,
-        &a.tail,
-        &mut a.marks,
-        &mut a.own,
-        &mut a.events,
-    )
-    .unwrap();
-    plain.breadth_first();
-    assert!(agrees(plain.labels(), &a.marks));
+fn plain_agrees(profiles: &[Profile]) {
+    let (n, m, mut a) = (profiles[0].n, profiles[0].m, Areas::new(profiles));
+    for profile in profiles {
+        a.turn();
+        let mut plain = Plain::new(&profiles[a.at]);
+        let agrees = |labels: &[u32], marks: &[u16]| {
+            labels.iter().zip(marks).all(|(&x, &y)| x == u32::from(y))
+        };
+        let links = &a.links[a.at];
+        let walked = proved::dfs_recursive(
+            n,
+            m,
+            1,
+            &links.after,
+            &links.tail,
+            &mut a.marks,
+            &mut a.events,
+        );
+        plain.depth_first();
+        assert!(
+            walked.is_ok() && agrees(plain.labels(), &a.marks),
+            "{}",
+            profile.shape
+        );
+        let walked = proved::bfs_queue(
+            n,
+            m,
+            1,
+            &links.after,
+            &links.tail,
+            &mut a.marks,
+            &mut a.own,
+            &mut a.events,
+        );
+        plain.breadth_first();
+        assert!(
+            walked.is_ok() && agrees(plain.labels(), &a.marks),
+            "{}",
+            profile.shape
+        );
+    }
 }
 
-/// Every call on one profile.
-pub fn rows(profile: &Profile) -> Vec<Row> {
-    plain_agrees(profile);
-    vec![
-        measure(
-            profile,
-            "check_image",
-            Search::None,
-            |p, a| proved::check_image(p.n, p.m, &a.after, &a.tail).unwrap(),
-            |p, a| assert_eq!(same::check_image(p.n, p.m, &a.after, &a.tail), 0),
-        ),
-        measure(
-            profile,
-            "dfs_recursive",
-            Search::Depth,
-            |p, a| {
-                a.tally = proved::dfs_recursive(
-                    p.n,
-                    p.m,
-                    1,
-                    &a.after,
-                    &a.tail,
-                    &mut a.marks,
-                    &mut a.events,
-                )
-                .unwrap()
-                .0;
-            },
-            |p, a| {
-                let number = same::recursive(
-                    p.n,
-                    p.m,
-                    1,
-                    &a.after,
-                    &a.tail,
-                    &mut a.marks,
-                    &mut a.events,
-                    &mut a.tally,
-                );
-                assert_eq!(number, 0);
-            },
-        ),
-        measure(
-            profile,
-            "dfs_parent",
-            Search::Depth,
-            |p, a| {
-                a.tally = proved::dfs_parent(
-                    p.n,
-                    p.m,
-                    1,
-                    &a.after,
-                    &a.tail,
-                    &mut a.marks,
-                    &mut a.own,
-                    &mut a.events,
-                )
-                .unwrap()
-                .0;
-            },
-            |p, a| {
-                let number = same::parent(
-                    p.n,
-                    p.m,
-                    1,
-                    &a.after,
-                    &a.tail,
-                    &mut a.marks,
-                    &mut a.own,
-                    &mut a.events,
-                    &mut a.tally,
-                );
-                assert_eq!(number, 0);
-            },
-        ),
-        measure(
-            profile,
-            "dfs_array",
-            Search::Depth,
-            |p, a| {
-                a.tally = proved::dfs_array(
-                    p.n,
-                    p.m,
-                    1,
-                    &a.firsts,
-                    &mut a.tails,
-                    &mut a.marks,
-                    &mut a.own,
-                    &mut a.events,
-                )
-                .unwrap()
-                .0;
-            },
-            |p, a| {
-                let number = same::array(
-                    p.n,
-                    p.m,
-                    1,
-                    &a.firsts,
-                    &mut a.tails,
-                    &mut a.marks,
-                    &mut a.own,
-                    &mut a.events,
-                    &mut a.tally,
-                );
-                assert_eq!(number, 0);
-            },
-        ),
-        measure(
-            profile,
-            "bfs_queue",
-            Search::Breadth,
-            |p, a| {
-                a.tally = proved::bfs_queue(
-                    p.n,
-                    p.m,
-                    1,
-                    &a.after,
-                    &a.tail,
-                    &mut a.marks,
-                    &mut a.own,
-                    &mut a.events,
-                )
-                .unwrap()
-                .0;
-            },
-            |p, a| {
-                let number = same::queue(
-                    p.n,
-                    p.m,
-                    1,
-                    &a.after,
-                    &a.tail,
-                    &mut a.marks,
-                    &mut a.own,
-                    &mut a.events,
-                    &mut a.tally,
-                );
-                assert_eq!(number, 0);
-            },
-        ),
-        measure(
-            profile,
-            "bfs_folded",
-            Search::Breadth,
-            |p, a| {
-                a.tally = proved::bfs_folded(
-                    p.n,
-                    p.m,
-                    1,
-                    &mut a.after,
-                    &a.tail,
-                    &mut a.marks,
-                    &mut a.events,
-                )
-                .unwrap()
-                .0;
-            },
-            |p, a| {
-                let number = same::folded_queue(
-                    p.n,
-                    p.m,
-                    1,
-                    &mut a.after,
-                    &a.tail,
-                    &mut a.marks,
-                    &mut a.events,
-                    &mut a.tally,
-                );
-                assert_eq!(number, 0);
-            },
-        ),
-        measure(
-            profile,
-            "open + run",
-            Search::Depth,
-            |p, a| {
-                let mut state =
-                    proved::open(p.n, p.m, 1, &a.after, &a.tail, &mut a.marks, &mut a.events)
-                        .unwrap();
-                let budget = 2 * u32::from(p.m) + u32::from(p.n);
-                let ran = proved::run(
-                    &mut state,
-                    budget,
-                    &mut a.after,
-                    &mut a.tail,
-                    &mut a.marks,
-                    &mut a.events[3..],
-                )
-                .unwrap();
-                assert_eq!((ran.steps, ran.reason), (budget, proved::Reason::Ended));
-            },
-            |p, a| {
-                let mut state =
-                    same::open(p.n, p.m, 1, &a.after, &a.tail, &mut a.marks, &mut a.events)
-                        .unwrap_or_else(|number| panic!("refused with {number}"));
-                let budget = 2 * u32::from(p.m) + u32::from(p.n);
-                let ran = same::run(
-                    &mut state,
-                    budget,
-                    &mut a.after,
-                    &mut a.tail,
-                    &mut a.marks,
-                    &mut a.events[3..],
-                );
-                assert!(matches!(ran, Ok((steps, _, 1)) if steps == budget));
-            },
-        ),
-    ]
+/// The proved whole walks, and the same in safe Rust.
+fn dfs_recursive(n: u16, m: u16, a: &mut Areas) {
+    let l = &a.links[a.at];
+    let walked = proved::dfs_recursive(n, m, 1, &l.after, &l.tail, &mut a.marks, &mut a.events);
+    a.tally = walked.unwrap().0;
+}
+
+fn same_recursive(n: u16, m: u16, a: &mut Areas) {
+    let l = &a.links[a.at];
+    let (marks, events) = (&mut a.marks, &mut a.events);
+    let number = same::recursive(n, m, 1, &l.after, &l.tail, marks, events, &mut a.tally);
+    assert_eq!(number, 0);
+}
+
+fn dfs_parent(n: u16, m: u16, a: &mut Areas) {
+    let l = &a.links[a.at];
+    let (marks, own, events) = (&mut a.marks, &mut a.own, &mut a.events);
+    let walked = proved::dfs_parent(n, m, 1, &l.after, &l.tail, marks, own, events);
+    a.tally = walked.unwrap().0;
+}
+
+fn same_parent(n: u16, m: u16, a: &mut Areas) {
+    let l = &a.links[a.at];
+    let (marks, own, events) = (&mut a.marks, &mut a.own, &mut a.events);
+    let number = same::parent(n, m, 1, &l.after, &l.tail, marks, own, events, &mut a.tally);
+    assert_eq!(number, 0);
+}
+
+fn dfs_array(n: u16, m: u16, a: &mut Areas) {
+    let l = &mut a.links[a.at];
+    let (marks, own, events) = (&mut a.marks, &mut a.own, &mut a.events);
+    let walked = proved::dfs_array(n, m, 1, &l.firsts, &mut l.tails, marks, own, events);
+    a.tally = walked.unwrap().0;
+}
+
+fn same_array(n: u16, m: u16, a: &mut Areas) {
+    let l = &mut a.links[a.at];
+    let (marks, own, events) = (&mut a.marks, &mut a.own, &mut a.events);
+    let tally = &mut a.tally;
+    let number = same::array(n, m, 1, &l.firsts, &mut l.tails, marks, own, events, tally);
+    assert_eq!(number, 0);
+}
+
+fn bfs_queue(n: u16, m: u16, a: &mut Areas) {
+    let l = &a.links[a.at];
+    let (marks, own, events) = (&mut a.marks, &mut a.own, &mut a.events);
+    let walked = proved::bfs_queue(n, m, 1, &l.after, &l.tail, marks, own, events);
+    a.tally = walked.unwrap().0;
+}
+
+fn same_queue(n: u16, m: u16, a: &mut Areas) {
+    let l = &a.links[a.at];
+    let (marks, own, events) = (&mut a.marks, &mut a.own, &mut a.events);
+    let number = same::queue(n, m, 1, &l.after, &l.tail, marks, own, events, &mut a.tally);
+    assert_eq!(number, 0);
+}
+
+fn bfs_folded(n: u16, m: u16, a: &mut Areas) {
+    let l = &mut a.links[a.at];
+    let (marks, events) = (&mut a.marks, &mut a.events);
+    let walked = proved::bfs_folded(n, m, 1, &mut l.after, &l.tail, marks, events);
+    a.tally = walked.unwrap().0;
+}
+
+fn same_folded_queue(n: u16, m: u16, a: &mut Areas) {
+    let l = &mut a.links[a.at];
+    let (marks, events) = (&mut a.marks, &mut a.events);
+    let number = same::folded_queue(n, m, 1, &mut l.after, &l.tail, marks, events, &mut a.tally);
+    assert_eq!(number, 0);
+}
+
+/// The folded depth-first walk: an opening, and one run that ends it.
+fn open_and_run(n: u16, m: u16, a: &mut Areas) {
+    let l = &mut a.links[a.at];
+    let (marks, events) = (&mut a.marks, &mut a.events);
+    let mut state = proved::open(n, m, 1, &l.after, &l.tail, marks, events).unwrap();
+    let budget = 2 * u32::from(m) + u32::from(n);
+    let (after, tail) = (&mut l.after, &mut l.tail);
+    let ran = proved::run(&mut state, budget, after, tail, marks, &mut events[3..]).unwrap();
+    assert_eq!((ran.steps, ran.reason), (budget, proved::Reason::Ended));
+}
+
+fn same_open_and_run(n: u16, m: u16, a: &mut Areas) {
+    let l = &mut a.links[a.at];
+    let (marks, events) = (&mut a.marks, &mut a.events);
+    let Ok(mut state) = same::open(n, m, 1, &l.after, &l.tail, marks, events) else {
+        panic!("refused");
+    };
+    let budget = 2 * u32::from(m) + u32::from(n);
+    let (after, tail) = (&mut l.after, &mut l.tail);
+    let ran = same::run(&mut state, budget, after, tail, marks, &mut events[3..]);
+    assert!(matches!(ran, Ok((steps, _, 1)) if steps == budget));
+}
+
+/// The checker of images.
+fn check_image(n: u16, m: u16, a: &mut Areas) {
+    let l = &a.links[a.at];
+    assert_eq!(proved::check_image(n, m, &l.after, &l.tail), Ok(()));
+}
+
+fn same_check_image(n: u16, m: u16, a: &mut Areas) {
+    let l = &a.links[a.at];
+    assert_eq!(same::check_image(n, m, &l.after, &l.tail), 0);
+}
+
+const CALLS: [(&str, Search, Call, Call); 7] = [
+    ("check_image", Search::None, check_image, same_check_image),
+    (
+        "dfs_recursive",
+        Search::Depth,
+        dfs_recursive,
+        same_recursive,
+    ),
+    ("dfs_parent", Search::Depth, dfs_parent, same_parent),
+    ("dfs_array", Search::Depth, dfs_array, same_array),
+    ("bfs_queue", Search::Breadth, bfs_queue, same_queue),
+    ("bfs_folded", Search::Breadth, bfs_folded, same_folded_queue),
+    ("open + run", Search::Depth, open_and_run, same_open_and_run),
+];
+
+/// Every call on profiles of one shape and size.
+pub fn rows(profiles: &[Profile]) -> Vec<Row> {
+    plain_agrees(profiles);
+    CALLS
+        .map(|(call, search, proved, same)| measure(profiles, call, search, proved, same))
+        .into()
 }
