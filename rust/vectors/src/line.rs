@@ -4,16 +4,16 @@ use crate::profiles::Profile;
 use profile_walker::areas;
 use std::fmt::Write;
 
-/// What stands in event words, and in the words behind a call's answer, before the first call.
+/// What stands in the event words that a call is lent. No answer shows it, since only events written are.
 const UNTOUCHED: u16 = 9999;
 
 pub struct Line<'a> {
     profile: &'a Profile,
-    pub state: [u16; 9],
-    pub after: Vec<u16>,
-    pub tail: Vec<u16>,
-    pub marks: Vec<u16>,
-    pub figure: u32,
+    state: [u16; 9],
+    after: Vec<u16>,
+    tail: Vec<u16>,
+    marks: Vec<u16>,
+    figure: u32,
     text: String,
 }
 
