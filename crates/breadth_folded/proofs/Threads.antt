@@ -24,7 +24,8 @@ use Rattle.breadth_folded.specs.declared.Scanned.{Scanned}
 use Rattle.walks.specs.Promises.{walkNumber, breadthWalk, tallied}
 use Rattle.walks.specs.Writing.{noEvents, total, Held}
 use Rattle.breadth_folded.specs.Threads.{lastOf, lastNode, lastFrom, threaded, rear, Ends, FoldedAt, SomeFoldedAt, FoldedScanned, CanSearch, Ended}
-use Rattle.walks.proofs.Writing.{Emits, Puts, Starts, held-total, held-lengths, begins, zeros-tallied}
+use Rattle.walks.proofs.Begins.{begins, zeros-tallied}
+use Rattle.walks.proofs.Writing.{Emits, Puts, Starts, held-total, held-lengths}
 use Rattle.walks.proofs.Reading.{target}
 use Rattle.walks.proofs.Scans.{first-waits, first-held, waiting-queued, scanning-queued, waiting-room, InScan, scan-few, scan-kept, scan-same, over-held, over-total, leads-vertex, crossed-total, edge-pass, edge-queue, edge-join, edge-total}
 

@@ -31,7 +31,9 @@ use Rattle.arrays.proofs.Arrays.{read-at, refused}
 use Rattle.walks.specs.Promises.{walkNumber, breadthWalk, tallied}
 use Rattle.walks.specs.Writing.{noEvents, total, Held}
 use Rattle.breadth_queue.specs.Queues.{QueueAt, SomeQueueAt, QueueScanned, CanSearch, Ended}
-use Rattle.walks.proofs.Writing.{Emits, Puts, Starts, held-total, held-labels, held-lengths, all-cleared, begins, zeros-tallied}
+use Rattle.walks.proofs.Begins.{begins, zeros-tallied}
+use Rattle.walks.proofs.Storing.{all-cleared}
+use Rattle.walks.proofs.Writing.{Emits, Puts, Starts, held-total, held-labels, held-lengths}
 use Rattle.walks.proofs.Reading.{target}
 use Rattle.walks.proofs.Scans.{first-waits, first-held, waiting-queued, waiting-labels, waiting-count, waiting-room, Ahead, Next, ahead-all, ahead-none, ahead-next, InScan, scan-few, scan-kept, scan-same, over-held, over-total, leads-vertex, crossed-total, crossed-labels, edge-pass, edge-fits, edge-join, edge-total}
 

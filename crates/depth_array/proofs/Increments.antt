@@ -34,7 +34,7 @@ use Rattle.walks.specs.declared.place.Place.{Place}
 use Rattle.walks.specs.declared.depth.Progress.{Progress}
 use Rattle.walks.specs.Progress.{depthTally}
 use Rattle.walks.specs.Moves.{Underway}
-use Rattle.walks.proofs.Writing.{all-cleared}
+use Rattle.walks.proofs.Storing.{all-cleared}
 use Rattle.walks.proofs.Progress.{Emits, Puts, Starts}
 use Rattle.walks.proofs.Moves as moves
 use Rattle.depth_array.specs.Increments.{ahead, tailsLeft, lastFrom, Left, CanSearch, ArrayAt, SomeArrayAt, Ended}

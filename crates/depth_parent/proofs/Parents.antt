@@ -22,7 +22,7 @@ use Rattle.graphs.specs.Claims.{Ready}
 use Rattle.graphs.specs.Refusals.{lent}
 use Rattle.graphs.proofs.Refusals.{long}
 use Rattle.graphs.proofs.Sound.{head0, Linked, linked-rest, Sound}
-use Rattle.graphs.proofs.Places.{Frame, frame, entering, path, Above, walk, of-rest}
+use Rattle.graphs.proofs.Places.{Frame, frame, entering, path, Above, of-rest}
 use Rattle.graphs.proofs.Room.{profile-ready}
 use Rattle.graphs.proofs.Trees.{AllTrees, all-trees}
 use Rattle.walks.specs.declared.place.Place.{Place}
@@ -33,7 +33,8 @@ use Rattle.depth_parent.specs.Parents.{Entered, ParentAt, SomeParentAt, 
 use Rattle.walks.specs.Moves.{Underway}
 use Rattle.arrays.proofs.Arrays.{read-at}
 use Rattle.walks.proofs.Reading.{target, target-is}
-use Rattle.walks.proofs.Writing.{all-cleared, begins}
+use Rattle.walks.proofs.Begins.{begins}
+use Rattle.walks.proofs.Storing.{all-cleared}
 use Rattle.walks.proofs.Progress.{Emits, Puts, Starts, written-test}
 use Rattle.walks.proofs.Moves as moves
 

@@ -29,7 +29,8 @@ use Rattle.walks.specs.Writing.{noEvents, Roomy}
 use Rattle.walks.specs.Progress.{noProgress, depthTally, Written}
 use Rattle.depth_recursive.specs.Recursive.{searched, crossed, Searching, CanSearch, Traversing, CanTraverse}
 use Rattle.walks.proofs.Reading.{target, target-is}
-use Rattle.walks.proofs.Writing.{all-cleared, begins, zeros-tallied}
+use Rattle.walks.proofs.Begins.{begins, zeros-tallied}
+use Rattle.walks.proofs.Storing.{all-cleared}
 use Rattle.walks.proofs.Progress.{Emits, Puts, written-test, written-lengths, emitted, labelling, written-none, whole-tally}
 
 -- Room for all events is room for some of them.

@@ -15,7 +15,7 @@ use Rattle.lists.proofs.Tests.{and-true, both}
 use Rattle.graphs.specs.Nodes.{isEdge, isLink, isNode}
 use Rattle.graphs.proofs.Nodes.{edge-is}
 use Rattle.folding.specs.Machine.{Config, relink, retreat, finish, undo-tree, undo-open, rollingBack, relinked, target, closed, upward, fits, enact}
-use Rattle.walks.proofs.Writing.{all-cleared}
+use Rattle.walks.proofs.Storing.{all-cleared}
 use Rattle.folded.specs.Steps.{Attempt, out, made, trying, upwardIn}
 use Rattle.folded.proofs.Stores.{store-past, unfit-left, fit-made}
 

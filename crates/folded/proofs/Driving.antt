@@ -19,7 +19,7 @@ use Rattle.graphs.proofs.Room.{words-length}
 use Rattle.graphs.specs.Refusals.{refuse, firstOf, Lent, lent, short, vertexOut, sizeRefusals}
 use Rattle.graphs.proofs.Refusals.{all-false, long}
 use Rattle.walks.proofs.Numbers.{more-lent, own-test}
-use Rattle.walks.proofs.Writing.{words-append}
+use Rattle.walks.proofs.Events.{words-append}
 use Rattle.folding.specs.Machine.{Config, stepOf, fits, canStep, step}
 use Rattle.folding.specs.Calls.{ended, spent, stuck, ran, taken, refusing, over, fieldsIn, stateNumber, workAreas, runNumber, stepRefusals, stepNumber, Run, stop, onward, run, runFor, single, perform, serve}
 use Rattle.folding.proofs.Fields.{Fields, fields-are}

@@ -16,7 +16,7 @@ use Rattle.lists.proofs.Words.{overlay-past}
 use Rattle.graphs.specs.Events.{Event, words}
 use Rattle.graphs.specs.Image.{Image}
 use Rattle.graphs.proofs.Room.{words-length}
-use Rattle.walks.proofs.Writing.{words-append}
+use Rattle.walks.proofs.Events.{words-append}
 use Rattle.folding.specs.Machine.{Config}
 use Rattle.folding.specs.Calls.{unless, Call, runFor, single, rollBack, areaOf, serve, openNumber, unopened, openReply, opening}
 use Rattle.folding.specs.Lines.{Line, noted, calls, begun, lineB, folded}

@@ -16,7 +16,8 @@ use Rattle.graphs.proofs.Results.{marks-first}
 use Rattle.graphs.proofs.Sound.{profile-sound}
 use Rattle.folding.specs.Calls.{refusing, unless, unopened, openNumber, openedAt, openReply, opening}
 use Rattle.walks.specs.Writing.{Roomy}
-use Rattle.walks.proofs.Writing.{Starts, beginning}
+use Rattle.walks.specs.declared.depth.Progress.{Progress}
+use Rattle.walks.proofs.Progress.{Starts, beginning}
 use Rattle.states.proofs.Numbers.{unless-refused}
 
 module _ (g : Image) (start : ℕ) (marks area : List ℕ) {k : ℕ} (e : k ≡ searchNumber g start (lent (g .n + g .m) marks ∷ lent 3 area ∷ [])) where
@@ -45,7 +46,7 @@ module _ (g : Image) (start : ℕ) (marks area : List ℕ) {k : ℕ} (e : k ≡ 
       let a = long (g .n + g .m) marks (lent 3 area ∷ []) (P .areas-long) in
       record { start-vertex = P .start-vertex; long-after = P .sound .long-after; long-marks = a .0; long-area = long 3 area [] (a .1) .0 }
 
-  pub opened : {marks′ area′ t : List ℕ} → k ≡ 0 → Starts (g .n + g .m) start marks area marks′ area′ t → (marks′ ≡ openedAt g start marks .marks) × (area′ ≡ overlay (words (event label 0 start ∷ [])) area)
+  pub opened : {marks′ area′ : List ℕ} {t : Progress} → k ≡ 0 → Starts (g .n + g .m) start marks area marks′ area′ t → (marks′ ≡ openedAt g start marks .marks) × (area′ ≡ overlay (words (event label 0 start ∷ [])) area)
   opened z w =
       let O = opens z in
       let x = O .start-vertex in

@@ -5,7 +5,7 @@ use crate::values::State;
 use crate::values::refused;
 use images::Edge;
 use images::Vertex;
-use walks::begin;
+use walks::depth::begin;
 use walks::search_number;
 ghost use mathlib.Core.Path.{_≡_};
 ghost use mathlib.Core.Bool.{_&&_};

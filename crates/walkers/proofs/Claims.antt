@@ -18,7 +18,8 @@ use Rattle.graphs.proofs.Renamed.{converted-search}
 use Rattle.walks.specs.Promises.{writtenAreas}
 use Rattle.walkers.specs.Claims.{TakenClaim, Fits, WalkClaim, ArrayWalkClaim, ConvertedClaim, SameClaim, TurnedBackClaim}
 use Rattle.walks.specs.Writing.{Roomy}
-use Rattle.walks.proofs.Writing.{begins, words-many}
+use Rattle.walks.proofs.Begins.{begins}
+use Rattle.walks.proofs.Events.{words-many}
 use Rattle.walks.proofs.Numbers.{array-walk-same}
 use Rattle.walks.proofs.ArrayBegins.{array-begins}
 

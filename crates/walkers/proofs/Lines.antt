@@ -16,7 +16,7 @@ use Rattle.graphs.proofs.Depth.{depth-first}
 use Rattle.graphs.proofs.Results.{tally-sums}
 use Rattle.graphs.proofs.Room.{words-length, profile-ready}
 use Rattle.walks.specs.Promises.{depthWalk}
-use Rattle.walks.proofs.Writing.{words-append}
+use Rattle.walks.proofs.Events.{words-append}
 use Rattle.folding.specs.Calls.{Reply, Call, areaOf, serve, opening, openNumber}
 use Rattle.folding.specs.Lines.{Line, lineA, lineB, folded, noted, calls, begun}
 use Rattle.folding.specs.Claims.{Agrees}

@@ -2,7 +2,7 @@
 -- The areas are functions of the events so far, so an event more is a law of those functions; seven counts follow from two.
 use mathlib.Core.Path.{_≡_, refl, sym, ap, _∙_}
 use mathlib.Core.Bool.{Bool, true, false, not, cond, _&&_}
-use mathlib.Core.List.{List, [], _∷_}
+use mathlib.Core.List.{List, [], _∷_, reverse}
 use Prim.Native.Nat.{ℕ, suc, _+_, _-_, _*_, _/_, _≤_, _<_, min}
 use native.Mathlib.Omega.{arith}
 use lib.Dec.{eqb, ltb, leb}
@@ -12,18 +12,18 @@ use Rattle.lists.specs.Members.{memb, consIf}
 use Rattle.lists.specs.Counts.{rank}
 use Rattle.lists.specs.Words.{at, put, pasted, cleared, filled}
 use Rattle.lists.proofs.Tests.{and-true}
-use Rattle.lists.proofs.Words.{length-cleared, cleared-filled}
+use Rattle.lists.proofs.Words.{length-cleared, length-overlay, cleared-filled}
 use Rattle.graphs.specs.Graph.{Graph}
-use Rattle.graphs.specs.Events.{Kind, event, label, advance-tree, advance-nontree, code, same, History, _▸_, labelled, count, tally}
+use Rattle.graphs.specs.Events.{Kind, event, label, advance-tree, advance-nontree, code, words, same, History, _▸_, labelled, count, tally}
 use Rattle.graphs.specs.Search.{depthFirst}
 use Rattle.graphs.specs.Claims.{Ready}
 use Rattle.graphs.proofs.Depth.{depth-first}
-use Rattle.graphs.proofs.Results.{marks-label, named-length, tally-sums}
+use Rattle.graphs.proofs.Results.{marks-label, marks-test, marks-length, named-length, tally-sums}
 use Rattle.walks.specs.declared.depth.Progress.{Progress}
 use Rattle.walks.specs.Writing.{noEvents, Held, Roomy}
 use Rattle.walks.specs.Progress.{noProgress, hasRoom, progressAfter, eventsAfter, canLabel, labelProgress, labelMarks, labelEvents, isWhole, depthTally, Written}
-use Rattle.walks.proofs.Storing.{three-stored, and-none}
-use Rattle.walks.proofs.Writing.{events-next, marked-test, left-lengths, all-cleared}
+use Rattle.walks.proofs.Storing.{three-stored, all-cleared, and-none}
+use Rattle.walks.proofs.Events.{words-many, events-next}
 
 -- ---- what the functions store
 -- The test of room, by thirds.
@@ -83,32 +83,35 @@ module _ (u : ℕ) (p : Progress) (marks events : List ℕ) where
 module _ {k : ℕ} {h : History} {marks₀ events₀ marks events : List ℕ} {p : Progress} (W : Written k h marks₀ events₀ marks events p) where
   -- A mark of 0 is an unlabelled node.
   pub written-test : (x : ℕ) → 0 < x → x ≤ k → eqb (at 0 marks x) 0 ≡ not (memb x (labelled h))
-  written-test x a b = marked-test k h marks₀ marks (W .marked) x a b
+  written-test x a b = ap (λ (l : List ℕ). eqb (at 0 l x) 0) (W .marked) ∙ marks-test k h marks₀ x a b
 
   -- With room for one event more.
   module _ {all : History} (R : Roomy k all marks₀ events₀) where
     -- The areas keep their lengths.
     pub written-lengths : length h ≤ length all → (length marks ≡ length marks₀) × (length events ≡ length events₀)
-    written-lengths l = left-lengths k h (W .marked) (W .written) R l
+    written-lengths l = (
+      ap length (W .marked) ∙ marks-length k h marks₀ (R .long-marks),
+      ap length (W .written) ∙ length-overlay (words (reverse h)) events₀ (omega (arith, words-many h, R .room)),
+    )
 
     -- One event more has room.
-    can-emit : suc (length h) ≤ length all → hasRoom p (length events) ≡ true
+    pub can-emit : suc (length h) ≤ length all → hasRoom p (length events) ≡ true
     can-emit l =
         let e = written-lengths (omega arith) in
         let w = W .made in
         le-leb (3 * p .events + 3) (length events) (omega (arith, R .room, e .1))
 
-    few-labels : suc (length h) ≤ length all → p .labels ≤ 65534
+    pub few-labels : suc (length h) ≤ length all → p .labels ≤ 65534
     few-labels l = omega (arith, W .labels, named-length label h, tally-sums h, R .few)
 
-    can-label : suc (length h) ≤ length all → (u : ℕ) → 0 < u → u ≤ k → canLabel u p (length marks) (length events) ≡ true
+    pub can-label : suc (length h) ≤ length all → (u : ℕ) → 0 < u → u ≤ k → canLabel u p (length marks) (length events) ≡ true
     can-label l u a b = let e = written-lengths (omega arith) in and-true (le-leb 1 u a) (and-true (le-leb u (length marks) (omega (arith, R .long-marks, e .0))) (and-true (le-leb (p .labels) 65534 (few-labels l)) (can-emit l)))
 
     words-made : 3 * p .events ≡ 3 * length h
     words-made = ap (λ (c : ℕ). 3 * c) (W .made)
 
     -- An event that labels nothing.
-    written-emit : suc (length h) ≤ length all → (j : Kind) (r u : ℕ) → same label j ≡ false → Written k (h ▸ event j r u) marks₀ events₀ marks (pasted (3 * p .events) (code j ∷ r ∷ u ∷ []) events) (record { events = suc (p .events); labels = p .labels })
+    pub written-emit : suc (length h) ≤ length all → (j : Kind) (r u : ℕ) → same label j ≡ false → Written k (h ▸ event j r u) marks₀ events₀ marks (pasted (3 * p .events) (code j ∷ r ∷ u ∷ []) events) (record { events = suc (p .events); labels = p .labels })
     written-emit l j r u q = record {
       marked = W .marked ∙ ap (λ (b : Bool). filled (λ x. rank x (consIf b u (labelled h))) k marks₀) (sym q);
       written = (λ i. pasted (words-made i) (code j ∷ r ∷ u ∷ []) (W .written i)) ∙ events-next h events₀ j r u (omega (arith, R .room));
@@ -117,7 +120,7 @@ module _ {k : ℕ} {h : History} {marks₀ events₀ marks events : List ℕ} {p
     }
 
     -- A label.
-    written-label : suc (length h) ≤ length all → (u : ℕ) → 0 < u → u ≤ k → Written k (h ▸ event label 0 u) marks₀ events₀ (put 0 marks u (suc (p .labels))) (pasted (3 * p .events) (1 ∷ 0 ∷ u ∷ []) events) (record { events = suc (p .events); labels = suc (p .labels) })
+    pub written-label : suc (length h) ≤ length all → (u : ℕ) → 0 < u → u ≤ k → Written k (h ▸ event label 0 u) marks₀ events₀ (put 0 marks u (suc (p .labels))) (pasted (3 * p .events) (1 ∷ 0 ∷ u ∷ []) events) (record { events = suc (p .events); labels = suc (p .labels) })
     written-label l u a b = record {
       marked = (λ i. put 0 (W .marked i) u (suc (W .labels i))) ∙ marks-label k h marks₀ u a b;
       written = (λ i. pasted (words-made i) (1 ∷ 0 ∷ u ∷ []) (W .written i)) ∙ events-next h events₀ label 0 u (omega (arith, R .room));

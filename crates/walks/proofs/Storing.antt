@@ -18,6 +18,10 @@ cleared-next i [] h = absurd (omega arith)
 cleared-next zero (x ∷ area) h = refl
 cleared-next (suc i) (x ∷ area) h = ap (λ (l : List ℕ). 0 ∷ l) (cleared-next i area (omega arith))
 
+-- Where there are k words, k are cleared.
+pub all-cleared : (k : ℕ) (area : List ℕ) → k ≤ length area → cleared (min k (length area)) area ≡ cleared k area
+all-cleared k area h = let e : min k (length area) ≡ k = omega arith in ap (λ (j : ℕ). cleared j area) e
+
 -- Three words stored are three words pasted.
 pub three-stored : (at : ℕ) (area : List ℕ) (a b c : ℕ) → at + 3 ≤ length area → set (set (set area at a) (at + 1) b) (at + 2) c ≡ pasted at (a ∷ b ∷ c ∷ []) area
 three-stored at area a b c h =

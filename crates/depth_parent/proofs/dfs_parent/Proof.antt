@@ -7,7 +7,7 @@ use borrow.Author.Needs.{needs}
 use Rattle.graphs.specs.Refusals.{lent}
 use Rattle.images.specs.Checking.{image}
 use Rattle.arrays.proofs.Arrays.{refused}
-use Rattle.walks.proofs.Writing.{zeros-tallied}
+use Rattle.walks.proofs.Begins.{zeros-tallied}
 use Rattle.depth_parent.proofs.Parents.{can-search}
 use Rattle.depth_parent.proofs.dfs_parent.Statement.{statement}
 use Rattle.depth_parent.proofs.dfs_parent.Tie as tie

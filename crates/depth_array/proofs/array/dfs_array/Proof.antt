@@ -4,7 +4,7 @@ use mathlib.Core.Path.{refl, sym, _∙_}
 use mathlib.Core.Logic.{_≢_}
 use borrow.Author.Needs.{needs}
 use Rattle.arrays.proofs.Arrays.{refused}
-use Rattle.walks.proofs.Writing.{zeros-tallied}
+use Rattle.walks.proofs.Begins.{zeros-tallied}
 use Rattle.walks.proofs.ArrayBegins.{array-begins}
 use Rattle.depth_array.proofs.array.dfs_array.Statement.{statement}
 use Rattle.depth_array.proofs.array.dfs_array.Tie as tie
