@@ -2,7 +2,7 @@
 -- Edges flagged one after the other are all new exactly where none stands twice; their count is then m exactly where each stands once.
 use mathlib.Core.Path.{_≡_, refl, sym, ap, _∙_, subst}
 use mathlib.Core.Logic.{⊎-elim}
-use mathlib.Core.Bool.{Bool, true, false, not, cond}
+use mathlib.Core.Bool.{Bool, true, false, not, cond, _&&_, _||_}
 use mathlib.Core.List.{List, [], _∷_, _++_}
 use Prim.Native.Nat.{ℕ, zero, suc, _+_, _-_, _≤_, _<_}
 use native.Mathlib.Omega.{arith}
@@ -30,10 +30,10 @@ unfolding at
 word-here area i = let e : suc i - 1 ≡ i = omega arith in ap (λ (j : ℕ). getD area j 0) e
 
 -- ---- a test of each word of an area
--- The first i of k words pass the test.
-pub record Passed (test : ℕ → Bool) (area : List ℕ) (k i : ℕ) : Type 0 where
+-- `out` says whether one of the first i words, of k, fails the test.
+pub record Tested (test : ℕ → Bool) (area : List ℕ) (k i : ℕ) (out : Bool) : Type 0 where
   pub within : i ≤ k
-  pub all : allTo (λ x. test (at 0 area x)) i ≡ true
+  pub so : out ≡ not (allTo (λ x. test (at 0 area x)) i)
 
 -- An area with fewer than k words does not pass a test that fails at 0: a missing word reads as 0.
 pub short-out : (test : ℕ → Bool) (area : List ℕ) (k : ℕ) → length area < k → test 0 ≡ false → true ≡ not (allTo (λ x. test (at 0 area x)) k)
@@ -41,23 +41,26 @@ short-out test area k lt z =
     let missing : at 0 area (suc (length area)) ≡ 0 = word-here area (length area) ∙ List·getD-eq-default area 0 (omega arith) in
     sym (ap not (all-fails (λ x. test (at 0 area x)) k (suc (length area)) (omega arith) lt (ap test missing ∙ z)))
 
-pub passed-none : {test : ℕ → Bool} {area : List ℕ} {k : ℕ} → Passed test area k 0
-passed-none = record { within = omega arith; all = refl }
+pub tested-none : {test : ℕ → Bool} {area : List ℕ} {k : ℕ} → Tested test area k 0 false
+tested-none = record { within = omega arith; so = refl }
 
-module _ {test : ℕ → Bool} {area : List ℕ} {k i : ℕ} (p : Passed test area k i) where
-  pub passed-end : k ≤ i → false ≡ not (allTo (λ x. test (at 0 area x)) k)
-  passed-end q = let e : i ≡ k = omega (arith, p .within) in sym (ap not (rw e at (p .all)))
+not-and : (a b : Bool) → not (a && b) ≡ (not a || not b)
+not-and true b = refl
+not-and false b = refl
 
-  -- What the test says of the next word.
-  module _ (lt : i < k) {b : Bool} (e : b ≡ test (getD area i 0)) where
-    next : test (at 0 area (suc i)) ≡ b
-    next = ap test (word-here area i) ∙ sym e
+module _ {test : ℕ → Bool} {area : List ℕ} {k i : ℕ} {out : Bool} (t : Tested test area k i out) where
+  pub tested-end : k ≤ i → out ≡ not (allTo (λ x. test (at 0 area x)) k)
+  tested-end q = let e : i ≡ k = omega (arith, t .within) in rw e at (t .so)
 
-    pub passed-out : b ≡ false → true ≡ not (allTo (λ x. test (at 0 area x)) k)
-    passed-out h = sym (ap not (all-fails (λ x. test (at 0 area x)) k (suc i) (omega arith) lt (next ∙ h)))
-
-    pub passed-more : b ≡ true → Passed test area k (i + 1)
-    passed-more h = record { within = omega arith; all = rw (add-one i) (and-true (p .all) (next ∙ h)) }
+  -- The test says b of the next word.
+  pub tested-more : i < k → {b : Bool} → b ≡ test (getD area i 0) → Tested test area k (i + 1) (out || not b)
+  tested-more lt {b} e =
+      let next : b ≡ test (at 0 area (suc i)) = e ∙ ap test (sym (word-here area i)) in
+      let all = allTo (λ x. test (at 0 area x)) i in
+      record {
+        within = omega arith;
+        so = rw (add-one i) ((λ j. t .so j || not (next j)) ∙ sym (not-and all (test (at 0 area (suc i)))));
+      }
 
 -- ---- edges flagged one after the other
 abbrev pub allNew : ℕ → List ℕ → Flagging

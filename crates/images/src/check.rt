@@ -9,24 +9,25 @@ ghost use Prim.Native.Nat.{ℕ};
 ghost use Rattle.graphs.specs.Refusals.{afterOut, tailOut, listOut, imageNumber, firstOf, imageRefusals};
 ghost use Rattle.images.specs.Checking.{image, listFrom, Sized, Chained, flagAll, Follows};
 
-// Whether an after word is neither 0 nor an edge (5).
+// Whether an after word is neither 0 nor an edge (5). Every word is tested, also behind one that is out: a loop without a way out is
+// compiled to take several words at a time.
 fn after_out(n: u16, m: u16, after: &[u16]) -> bool
     requires { ⌜ Sized n m (now after) ⌝ }
     ensures { λ r. ⌜ ((tail : List ℕ) → r ≡ afterOut (image n m (now (after .entry)) tail)) ⌝ }
 {
     let top = n as usize + m as usize;
+    let mut out = false;
     let mut i: usize = 0;
     while i < top {
         let e = Edge(after[i]);
-        if !is_link(n, m, e) {
-            return true;
-        }
+        let link = is_link(n, m, e);
+        out = out | !link;
         i += 1;
     }
-    false
+    out
 }
 
-// Whether a tail is not a vertex (6). A tail that the area has no word for is none.
+// Whether a tail is not a vertex (6). A tail that the area has no word for is none. Every tail is tested, as above.
 pub fn tail_out(n: u16, m: u16, tail: &[u16]) -> bool
     ensures { λ r. ⌜ r ≡ tailOut n m (now (tail .entry)) ⌝ }
 {
@@ -34,15 +35,15 @@ pub fn tail_out(n: u16, m: u16, tail: &[u16]) -> bool
     if tail.len() < top {
         return true;
     }
+    let mut out = false;
     let mut i: usize = 0;
     while i < top {
         let v = Vertex(tail[i]);
-        if !is_vertex(n, v) {
-            return true;
-        }
+        let vertex = is_vertex(n, v);
+        out = out | !vertex;
         i += 1;
     }
-    false
+    out
 }
 
 // Whether each edge of a list was new, and how many edges are flagged now.
@@ -52,7 +53,7 @@ pub(crate) struct Flagged {
 }
 
 // Follows the list that begins with first, and flags each edge, up to the first that has its flag already. A list that comes back
-// to itself ends there.
+// to itself ends there. The next edge is read before the flag is set, since the next turn waits for it.
 fn flag_list(n: u16, m: u16, first: u16, after: &[u16], flags: &mut [u8], count: u16) -> Flagged
     requires { ⌜ Follows n m first (now after) (now flags) count ⌝ }
     ensures { λ r. ⌜ flagAll n (now (flags .entry)) count (listFrom m (now (after .entry)) first) ≡ record { new = r .new; count = r .count; flags = now (flags .exit) } ⌝ }
@@ -60,6 +61,8 @@ fn flag_list(n: u16, m: u16, first: u16, after: &[u16], flags: &mut [u8], count:
     let mut r = first;
     let mut c = count;
     while r != 0 {
+        let j = r as usize - 1;
+        let next = after[j];
         let k = r as usize - n as usize - 1;
         if flags[k] != 0 {
             return Flagged {
@@ -69,8 +72,7 @@ fn flag_list(n: u16, m: u16, first: u16, after: &[u16], flags: &mut [u8], count:
         }
         flags[k] = 1;
         c += 1;
-        let j = r as usize - 1;
-        r = after[j];
+        r = next;
     }
     Flagged {
         new: true,

@@ -17,47 +17,47 @@ abbrev μ-loop : tie.MeasureT-loop
 loop-holds : tie.Need-loop-holds Inv-loop μ-loop
 loop-holds c = along-start (c .pre) (suc (c .args .m)) (omega arith)
 
-sub-k : tie.Need-sub-k Inv-loop μ-loop
-sub-k c = omega (arith, along-turn (c .before .loop .inv) (c .loop-test .taken))
-
-sub-k-2 : tie.Need-sub-k-2 Inv-loop μ-loop
-sub-k-2 c = omega (arith, along-turn (c .before .loop .inv) (c .loop-test .taken))
-
-cast-k : tie.Need-cast-k Inv-loop μ-loop
-cast-k c = omega (arith, along-turn (c .before .loop .inv) (c .loop-test .taken))
-
-slice-read-if1 : tie.Need-slice-read-if1 Inv-loop μ-loop
-slice-read-if1 c = omega (arith, along-turn (c .before .before .loop .inv) (c .before .loop-test .taken))
-
-same-length : tie.Need-same-length Inv-loop μ-loop
-same-length c = follows-long (c .before .before .before .loop .inv .follows) ∙ sym (follows-long (c .before .before .before .before .pre))
-
-returns : tie.Need-returns Inv-loop μ-loop
-returns c = along-again (c .before .before .before .loop .inv) (c .before .before .loop-test .taken) (c .if1 .taken)
-
-slice-write-flags : tie.Need-slice-write-flags Inv-loop μ-loop
-slice-write-flags c = omega (arith, along-turn (c .before .before .before .loop .inv) (c .before .before .loop-test .taken))
-
-add-c : tie.Need-add-c Inv-loop μ-loop
-add-c c = omega (arith, along-turn (c .before .before .before .loop .inv) (c .before .before .loop-test .taken))
+cast-j : tie.Need-cast-j Inv-loop μ-loop
+cast-j c = omega (arith, along-turn (c .before .loop .inv) (c .loop-test .taken))
 
 sub-j : tie.Need-sub-j Inv-loop μ-loop
-sub-j c = omega (arith, along-turn (c .before .before .before .loop .inv) (c .before .before .loop-test .taken))
+sub-j c = omega (arith, along-turn (c .before .loop .inv) (c .loop-test .taken))
 
-cast-j : tie.Need-cast-j Inv-loop μ-loop
-cast-j c = omega (arith, along-turn (c .before .before .before .loop .inv) (c .before .before .loop-test .taken))
+mul-next : tie.Need-mul-next Inv-loop μ-loop
+mul-next c = omega (arith, along-turn (c .before .loop .inv) (c .loop-test .taken))
 
-mul-r : tie.Need-mul-r Inv-loop μ-loop
-mul-r c = omega (arith, along-turn (c .before .before .before .loop .inv) (c .before .before .loop-test .taken))
+shared-slice-read-next : tie.Need-shared-slice-read-next Inv-loop μ-loop
+shared-slice-read-next c = omega (arith, along-turn (c .before .before .loop .inv) (c .before .loop-test .taken))
 
-shared-slice-read-r : tie.Need-shared-slice-read-r Inv-loop μ-loop
-shared-slice-read-r c = omega (arith, along-turn (c .before .before .before .before .loop .inv) (c .before .before .before .loop-test .taken))
+cast-k : tie.Need-cast-k Inv-loop μ-loop
+cast-k c = omega (arith, along-turn (c .before .before .loop .inv) (c .before .loop-test .taken))
+
+sub-k : tie.Need-sub-k Inv-loop μ-loop
+sub-k c = omega (arith, along-turn (c .before .before .loop .inv) (c .before .loop-test .taken))
+
+sub-k-2 : tie.Need-sub-k-2 Inv-loop μ-loop
+sub-k-2 c = omega (arith, along-turn (c .before .before .loop .inv) (c .before .loop-test .taken))
+
+slice-read-if1 : tie.Need-slice-read-if1 Inv-loop μ-loop
+slice-read-if1 c = omega (arith, along-turn (c .before .before .before .loop .inv) (c .before .before .loop-test .taken))
+
+same-length : tie.Need-same-length Inv-loop μ-loop
+same-length c = follows-long (c .before .before .before .before .loop .inv .follows) ∙ sym (follows-long (c .before .before .before .before .before .pre))
+
+returns : tie.Need-returns Inv-loop μ-loop
+returns c = along-again (c .before .before .before .before .loop .inv) (c .before .before .before .loop-test .taken) (c .if1 .taken)
+
+slice-write-flags : tie.Need-slice-write-flags Inv-loop μ-loop
+slice-write-flags c = omega (arith, along-turn (c .before .before .before .before .loop .inv) (c .before .before .before .loop-test .taken))
+
+add-c : tie.Need-add-c Inv-loop μ-loop
+add-c c = omega (arith, along-turn (c .before .before .before .before .loop .inv) (c .before .before .before .loop-test .taken))
 
 loop-less : tie.Need-loop-less Inv-loop μ-loop
-loop-less c = omega (arith, follows-few (along-more (c .before .before .before .before .loop .inv) (c .before .before .before .loop-test .taken) (c .before .if1 .left) .follows))
+loop-less c = omega (arith, follows-few (along-more (c .before .before .before .before .loop .inv) (c .before .before .before .loop-test .taken) (c .if1 .left) .follows))
 
 loop-again : tie.Need-loop-again Inv-loop μ-loop
-loop-again c = along-more (c .before .before .before .before .loop .inv) (c .before .before .before .loop-test .taken) (c .before .if1 .left)
+loop-again c = along-more (c .before .before .before .before .loop .inv) (c .before .before .before .loop-test .taken) (c .if1 .left)
 
 same-length-2 : tie.Need-same-length-2 Inv-loop μ-loop
 same-length-2 c = follows-long (c .before .loop .inv .follows) ∙ sym (follows-long (c .before .before .pre))
@@ -68,4 +68,23 @@ returns-2 c = along-end (c .before .loop .inv) (c .loop-test .left)
 pub flag-list-spec : {M : Type 1} → statement M
 flag-list-spec =
     tie.close
-    (tie.spec Inv-loop μ-loop loop-holds cast-k sub-k sub-k-2 slice-read-if1 same-length returns slice-write-flags add-c cast-j sub-j mul-r shared-slice-read-r loop-less loop-again same-length-2 returns-2)
+    (tie.spec
+    Inv-loop
+    μ-loop
+    loop-holds
+    cast-j
+    sub-j
+    mul-next
+    shared-slice-read-next
+    cast-k
+    sub-k
+    sub-k-2
+    slice-read-if1
+    same-length
+    returns
+    slice-write-flags
+    add-c
+    loop-less
+    loop-again
+    same-length-2
+    returns-2)
