@@ -1,14 +1,14 @@
 //! Depth-first search: recursive, by parent edges, and over the array form.
 
 use super::judge;
-use super::log::Log;
+use super::log::DepthLog;
 
 struct Search<'a> {
     n: usize,
     after: &'a [u16],
     tail: &'a [u16],
     marks: &'a mut [u16],
-    log: Log<'a>,
+    log: DepthLog<'a>,
 }
 
 impl Search<'_> {
@@ -57,10 +57,10 @@ pub fn recursive(
         after: &after[..nodes],
         tail,
         marks,
-        log: Log::new(events),
+        log: DepthLog::new(events),
     };
     walk.search(start);
-    *tally = walk.log.tally;
+    *tally = walk.log.tally();
     0
 }
 
@@ -84,7 +84,7 @@ pub fn parent(
     }
     marks[..nodes].fill(0);
     parents[..vertices].fill(0);
-    let mut log = Log::new(events);
+    let mut log = DepthLog::new(events);
     log.label(marks, start);
     // v is being scanned, e is the edge next to traverse, f the tree edge into v.
     let (mut v, mut e, mut f) = (start, after[usize::from(start) - 1], 0);
@@ -106,7 +106,7 @@ pub fn parent(
         }
         log.emit(6, 0, v);
         if f == 0 {
-            *tally = log.tally;
+            *tally = log.tally();
             return 0;
         }
         let above = parents[usize::from(v) - 1];
@@ -141,7 +141,7 @@ pub fn array(
     }
     marks[..nodes].fill(0);
     increments[..vertices].fill(0);
-    let mut log = Log::new(events);
+    let mut log = DepthLog::new(events);
     log.label(marks, start);
     increments[usize::from(start) - 1] = 1;
     // v is being scanned, e is the position next to traverse, u the parent of v.
@@ -166,7 +166,7 @@ pub fn array(
         }
         log.emit(6, 0, v);
         if u == 0 {
-            *tally = log.tally;
+            *tally = log.tally();
             return 0;
         }
         e = firsts[usize::from(u) - 1] + increments[usize::from(u) - 1] - 1;

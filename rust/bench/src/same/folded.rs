@@ -2,6 +2,7 @@
 
 use super::judge::{self, is_link, is_vertex};
 
+#[derive(Clone, Copy)]
 pub struct State {
     n: u16,
     m: u16,
@@ -69,7 +70,7 @@ pub fn open(
 }
 
 struct Run<'a> {
-    s: &'a mut State,
+    s: State,
     after: &'a mut [u16],
     tail: &'a mut [u16],
     marks: &'a mut [u16],
@@ -235,7 +236,7 @@ pub fn run(
         return Err(8);
     }
     let mut run = Run {
-        s,
+        s: *s,
         after,
         tail,
         marks,
@@ -255,5 +256,6 @@ pub fn run(
         }
         steps += 1;
     };
+    *s = run.s;
     Ok((steps, run.at / 3, reason))
 }

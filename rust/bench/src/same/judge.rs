@@ -19,12 +19,18 @@ fn sizes(n: u16, m: u16) -> u16 {
     }
 }
 
+/// Whether a word is out. Every word is tested, also behind one that is out: a loop without a way out is compiled to
+/// take several words at a time.
+fn any_out(words: &[u16], out: impl Fn(u16) -> bool) -> bool {
+    words.iter().fold(false, |any, &x| any | out(x))
+}
+
 /// 5, 6 and 7 of an image whose sizes and areas are good.
 fn words(n: u16, m: u16, after: &[u16], tail: &[u16]) -> u16 {
-    if after.iter().any(|&x| !is_link(n, m, x)) {
+    if any_out(after, |x| !is_link(n, m, x)) {
         return 5;
     }
-    if tail.iter().any(|&x| !is_vertex(n, x)) {
+    if any_out(tail, |x| !is_vertex(n, x)) {
         return 6;
     }
     let mut flags = [false; 4000];
@@ -93,7 +99,7 @@ pub fn array_walk(n: u16, m: u16, start: u16, firsts: &[u16], tails: &[u16], lon
     if firsts[0] != 1 || firsts[vertices] != m + 1 || firsts.windows(2).any(|p| p[1] < p[0]) {
         return 5;
     }
-    if tails[..edges].iter().any(|&x| !is_vertex(n, x)) {
+    if any_out(&tails[..edges], |x| !is_vertex(n, x)) {
         return 6;
     }
     0
