@@ -40,28 +40,42 @@ fn table(
     }
 }
 
-/// The proved calls on profiles of one shape, each ten times as large as the one before, up to the limits.
+/// The proved calls and the plain searches on profiles of one shape, each ten times as large as the one before, up to
+/// the limits.
 fn growth(shape: fn(usize, usize) -> Vec<Profile>) {
     let sizes = [(1, 4), (10, 40), (100, 400), (1000, 4000)];
-    let grown = sizes.map(|(n, m)| (shape(n, m), n + m));
+    let grown = sizes.map(|(n, m)| {
+        let profiles = shape(n, m);
+        (walks::rows(&profiles), profiles[0].shape, n + m)
+    });
     println!(
-        "\nNanoseconds of the proved call for each element and reference, as n + m grows ({})\n",
-        grown[0].0[0].shape
+        "\nNanoseconds for each element and reference, as n + m grows ({})\n",
+        grown[0].1
     );
-    let nodes = grown.each_ref().map(|(_, nodes)| nodes.to_string());
+    let nodes = grown.each_ref().map(|(_, _, nodes)| nodes.to_string());
     println!(
         "| Call | {} |\n|---|{}",
         nodes.join(" | "),
         "---:|".repeat(nodes.len())
     );
-    let rows = grown.each_ref().map(|(profiles, _)| walks::rows(profiles));
-    for k in 0..rows[0].len() {
-        let cells: Vec<_> = rows
-            .iter()
-            .zip(&grown)
-            .map(|(rows, (_, nodes))| format!("{:.1}", rows[k].proved / *nodes as f64))
-            .collect();
-        println!("| `{}` | {} |", rows[0][k].call, cells.join(" | "));
+    let line = |name: &str, time: &dyn Fn(&[Row]) -> f64| {
+        let cells = grown.each_ref().map(|(rows, _, nodes)| {
+            let each = time(rows) / *nodes as f64;
+            format!("{each:.1}")
+        });
+        println!("| {name} | {} |", cells.join(" | "));
+    };
+    for (k, row) in grown[0].0.iter().enumerate() {
+        line(&format!("`{}`", row.call), &|rows| rows[k].proved);
+    }
+    for (name, call) in [
+        ("plain depth-first", "dfs_recursive"),
+        ("plain breadth-first", "bfs_queue"),
+    ] {
+        line(name, &|rows| {
+            let row = rows.iter().find(|row| row.call == call);
+            row.and_then(|row| row.plain).expect("a plain search")
+        });
     }
 }
 
