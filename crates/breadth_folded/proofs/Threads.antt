@@ -15,7 +15,7 @@ use Rattle.graphs.specs.Events.{event, label, scan, traverse, History, _▸_}
 use Rattle.graphs.specs.Image.{Image, chain, edgesOf, graphOf}
 use Rattle.graphs.specs.Results.{marksLeft, eventsLeft}
 use Rattle.graphs.proofs.Labels.{Labels}
-use Rattle.graphs.proofs.Sound.{head0, Linked, Sound, graph-closed}
+use Rattle.graphs.proofs.Sound.{head0, Linked, Sound, chain-of, edgesLeft, left-falls, graph-closed}
 use Rattle.graphs.proofs.Queues.{Waiting, Scanning, queue-begin, queue-scan, queue-end}
 use Rattle.images.specs.Checking.{image}
 use Rattle.arrays.specs.Arrays.{unlessRefused}
@@ -39,13 +39,6 @@ last-null : (after : List ℕ) (x : ℕ) (l : List ℕ) → Linked after (x ∷ 
 last-null after x [] h = h .0
 last-null after x (r ∷ rs) h = last-null after r rs (h .1)
 
--- A list that is linked is the chain from its first.
-chain-of : (after : List ℕ) (k : ℕ) (l : List ℕ) → Linked after l → ((z : ℕ) → Mem z l → 0 < z) → length l < k → chain k after (head0 l) ≡ l
-chain-of after zero l h p q = absurd (omega arith)
-chain-of after (suc k) [] h p q = refl
-chain-of after (suc k) (zero ∷ rs) h p q = absurd (let z = p 0 (here refl) in omega arith)
-chain-of after (suc k) (suc y ∷ rs) h p q = ap (λ (l : List ℕ). suc y ∷ l) (ap (chain k after) (h .0) ∙ chain-of after k rs (h .1) (λ z m. p z (there m)) (omega arith))
-
 -- Words that agree along a list link it alike.
 linked-same : (a b : List ℕ) (l : List ℕ) → ((z : ℕ) → Mem z l → at 0 b z ≡ at 0 a z) → Linked a l → Linked b l
 linked-same a b [] e h = tt
@@ -60,9 +53,6 @@ pub record Following (n m : ℕ) (after : List ℕ) (end f a : ℕ) : Type 0 whe
   next : a ≡ head0 rest
   edges : (r : ℕ) → Mem r rest → Edge n m r
   short : length rest ≤ m
-
-abbrev pub followed : ℕ → List ℕ → ℕ → ℕ
-followed m after a = length (chain (suc m) after a)
 
 module _ {n m x : ℕ} {after : List ℕ} (E : Ends n m x after) where
   ends-chain : chain (suc m) after (at 0 after x) ≡ E .list
@@ -92,7 +82,7 @@ module _ {n m x : ℕ} {after : List ℕ} (E : Ends n m x after) where
       pub high : a ≤ length after
       pub small : a ≤ 5000
       pub following : Following n m after end a (getD after (a - 1) 0)
-      pub less : followed m after (getD after (a - 1) 0) < followed m after a
+      pub less : edgesLeft m after (getD after (a - 1) 0) < edgesLeft m after a
 
     pub follow-step : (a ≡ 0 → ⊥) → Step
     follow-step ne = go (F .rest) (F .ends) (F .links) (F .next) (F .edges) (F .short)
@@ -103,14 +93,12 @@ module _ {n m x : ℕ} {after : List ℕ} (E : Ends n m x after) where
             let edge : Edge n m a = subst (Edge n m) (sym k) (p r (here refl)) in
             let word : getD after (a - 1) 0 ≡ head0 rs = sym (read-at after a) ∙ ap (at 0 after) k ∙ l .0 in
             let positive : (z : ℕ) → Mem z (r ∷ rs) → 0 < z = λ z q. (let w = p z q in omega arith) in
-            let here-chain : chain (suc m) after a ≡ r ∷ rs = ap (chain (suc m) after) k ∙ chain-of after (suc m) (r ∷ rs) l positive (omega arith) in
-            let next-chain : chain (suc m) after (getD after (a - 1) 0) ≡ rs = ap (chain (suc m) after) word ∙ chain-of after (suc m) rs (l .1) (λ z q. positive z (there q)) (omega arith) in
             record {
               edge = edge;
               high = omega (arith, E .long);
               small = omega (arith, E .few-vertices, E .few-edges);
               following = record { rest = rs; ends = ap (λ (y : ℕ). lastOf y rs) k ∙ h; links = l .1; next = word; edges = λ z q. p z (there q); short = omega arith };
-              less = omega (arith, ap length here-chain, ap length next-chain);
+              less = subst (λ (y : ℕ). edgesLeft m after y < edgesLeft m after a) (ap (at 0 after) (sym k) ∙ read-at after a) (subst (λ (y : ℕ). edgesLeft m after (at 0 after r) < edgesLeft m after y) (sym k) (left-falls m after r rs l positive s));
             }
 
 -- ---- the words of a queue

@@ -10,7 +10,7 @@ use lib.ListN.{length, getD}
 use borrow.Author.Tests.{eq-eqb, ne-eqb, not-true, not-false}
 use Rattle.lists.specs.Members.{Mem, here, there, memb}
 use Rattle.lists.specs.Words.{at, cleared}
-use Rattle.lists.proofs.Members.{mem-nil, memb-false}
+use Rattle.lists.proofs.Members.{mem-nil, memb-false, pigeonhole}
 use Rattle.graphs.specs.Nodes.{Vertex, Edge}
 use Rattle.graphs.specs.Events.{Kind, event, label, advance-tree, advance-nontree, retreat-nontree, retreat-tree, scan, code, same, History, _▸_, labelled}
 use Rattle.graphs.specs.Results.{marksLeft, eventsLeft}
@@ -18,7 +18,7 @@ use Rattle.graphs.specs.Search.{recorder, cross, walkEdges, depthFirst}
 use Rattle.graphs.specs.Image.{Image, edgesOf, to, graphOf}
 use Rattle.graphs.proofs.Labels.{Labels, label-ok, labels-few}
 use Rattle.graphs.proofs.Room.{profile-ready}
-use Rattle.graphs.proofs.Sound.{Sound, head0, Linked, graph-closed}
+use Rattle.graphs.proofs.Sound.{Sound, head0, Linked, edgesLeft, left-falls, graph-closed}
 use Rattle.graphs.proofs.DepthGrowth.{search-adds, search-labels}
 use Rattle.graphs.proofs.Places.{deep, walk, edges-add, suffix-length, can-search, deep-unroll}
 use Rattle.arrays.specs.Arrays.{unlessRefused}
@@ -164,6 +164,7 @@ pub record Underway (g : Image) (u : ℕ) (h : History) (marks₀ events₀ mark
   pub next : r ≡ head0 rest
   pub links : Linked (g .after) rest
   pub listed : (x : ℕ) → Mem x rest → Mem x (edgesOf g u)
+  pub short : length rest ≤ g .m
   pub labels : Labels (g .n) (labelled so-far)
   pub more : length (labelled h) < length (labelled so-far)
   pub areas : Written (g .n + g .m) so-far marks₀ events₀ marks events t
@@ -204,6 +205,7 @@ module _ {g : Image} {u : ℕ} {h : History} {marks₀ events₀ marks events : 
     next = sym (read-at (g .after) u) ∙ S .sound .first u (S .vertex);
     links = S .sound .linked u (S .vertex);
     listed = λ x m. m;
+    short = pigeonhole (g .n) (g .m) (edgesOf g u) (S .sound .once u (S .vertex)) (λ r m. S .sound .edge u r (S .vertex) m);
     labels = label-ok (g .n) u (labelled h) (S .vertex) (S .fresh) (S .labels);
     more = omega arith;
     areas = labelling (S .areas) (S .roomy) (omega (arith, search-room)) u (S .vertex .0) (omega (arith, S .vertex .1)) e;
@@ -257,6 +259,15 @@ module _ {g : Image} {u : ℕ} {h : History} {marks₀ events₀ marks events : 
     crossed-room : suc (length (crossed g r u (U .so-far))) ≤ length (searched g u h)
     crossed-room = omega (arith, ap length ahead, suffix-length (edges-add (graphOf g) u (N .later) (crossed g r u (U .so-far))))
 
+    -- Behind it there is one edge less.
+    links : Linked (g .after) (r ∷ N .later)
+    links = subst (Linked (g .after)) (N .is) (U .links)
+
+    pub way-falls : edgesLeft (g .m) (g .after) (getD (g .after) (r - 1) 0) < edgesLeft (g .m) (g .after) r
+    way-falls =
+        let positive : (x : ℕ) → Mem x (r ∷ N .later) → 0 < x = λ x m. (let e = U .sound .edge u x (U .vertex) (U .listed x (subst (Mem x) (sym (N .is)) m)) in omega arith) in
+        subst (λ (x : ℕ). edgesLeft (g .m) (g .after) x < edgesLeft (g .m) (g .after) r) (read-at (g .after) r) (left-falls (g .m) (g .after) r (N .later) links positive (omega (arith, U .short, ap length (N .is))))
+
     -- The next edge can be traversed.
     pub way-edge : Traversing g r u (U .so-far) marks₀ events₀ marks events t
     way-edge = record { sound = U .sound; vertex = U .vertex; listed = U .listed r (subst (Mem r) (sym (N .is)) (here refl)); labels = U .labels; areas = U .areas; roomy = room-for (omega (arith, crossed-room)) (U .roomy) }
@@ -268,7 +279,6 @@ module _ {g : Image} {u : ℕ} {h : History} {marks₀ events₀ marks events : 
       -- It was.
       pub way-turns : Underway g u h marks₀ events₀ marks′ events′ t′ (getD (g .after) (r - 1) 0)
       way-turns =
-          let links : Linked (g .after) (r ∷ N .later) = subst (Linked (g .after)) (N .is) (U .links) in
           let L = crossing-labels g (U .sound) r u (leads way-edge) (U .so-far) (U .labels) (memb (to g r) (labelled (U .so-far))) refl in
           record {
             sound = U .sound;
@@ -278,16 +288,13 @@ module _ {g : Image} {u : ℕ} {h : History} {marks₀ events₀ marks events : 
             next = sym (read-at (g .after) r) ∙ links .0;
             links = links .1;
             listed = λ x m. U .listed x (subst (Mem x) (sym (N .is)) (there m));
+            short = omega (arith, U .short, ap length (N .is));
             labels = L .0;
             more = omega (arith, U .more, L .1);
             areas = D;
             roomy = U .roomy;
             future = ahead;
           }
-
-      -- Its events leave less room.
-      pub way-falls : 10000 - t′ .events < 10000 - t .events
-      way-falls = omega (arith, D .made, U .areas .made, two-more way-edge, crossed-room, U .roomy .few)
 
 -- ---- the walk
 -- What the walker promises of its answer, and of the areas written.

@@ -9,7 +9,7 @@ use native.Mathlib.Omega.{arith}
 use lib.ListN.{length, getD}
 use lib.Dec.{eqb, ltb, leb}
 use borrow.Author.Tests.{ltb-false, le-leb, lt-leb, not-false}
-use Rattle.lists.specs.Members.{Mem, NoDup, memb}
+use Rattle.lists.specs.Members.{Mem, here, there, NoDup, memb}
 use Rattle.lists.specs.Counts.{countIn}
 use Rattle.lists.specs.Words.{at}
 use Rattle.lists.proofs.Tests.{neither, Compared, equal, other, compare}
@@ -64,6 +64,23 @@ chain-edges n m after h (suc k) zero hx r q = absurd (mem-nil q)
 chain-edges n m after h (suc k) (suc y) hx r q =
     let e : Edge n m (suc y) = link-not-null n m (suc y) hx (omega arith) in
     each-cons (Edge n m) (suc y) (chain k after (at 0 after (suc y))) e (λ z p. chain-edges n m after h k (at 0 after (suc y)) (h (suc y) (omega arith) (e .1)) z p) r q
+
+-- A linked list is the chain from its first.
+pub chain-of : (after : List ℕ) (k : ℕ) (l : List ℕ) → Linked after l → ((z : ℕ) → Mem z l → 0 < z) → length l < k → chain k after (head0 l) ≡ l
+chain-of after zero l h p q = absurd (omega arith)
+chain-of after (suc k) [] h p q = refl
+chain-of after (suc k) (zero ∷ rs) h p q = absurd (let z = p 0 (here refl) in omega arith)
+chain-of after (suc k) (suc y ∷ rs) h p q = ap (λ (l : List ℕ). suc y ∷ l) (ap (chain k after) (h .0) ∙ chain-of after k rs (h .1) (λ z m. p z (there m)) (omega arith))
+
+-- How many edges are left on a list, from r on: behind r there is one less.
+abbrev pub edgesLeft : ℕ → List ℕ → ℕ → ℕ
+edgesLeft m after r = length (chain (suc m) after r)
+
+pub left-falls : (m : ℕ) (after : List ℕ) (r : ℕ) (rs : List ℕ) → Linked after (r ∷ rs) → ((z : ℕ) → Mem z (r ∷ rs) → 0 < z) → length (r ∷ rs) ≤ m → edgesLeft m after (at 0 after r) < edgesLeft m after r
+left-falls m after r rs l p s =
+    let whole : chain (suc m) after r ≡ r ∷ rs = chain-of after (suc m) (r ∷ rs) l p (omega arith) in
+    let rest : chain (suc m) after (at 0 after r) ≡ rs = ap (chain (suc m) after) (l .0) ∙ chain-of after (suc m) rs (l .1) (λ z q. p z (there q)) (omega arith) in
+    omega (arith, ap length whole, ap length rest)
 
 -- A chain shorter than its fuel has come to its end.
 chain-linked : (after : List ℕ) (k x : ℕ) → length (chain k after x) < k → (x ≡ head0 (chain k after x)) × Linked after (chain k after x)

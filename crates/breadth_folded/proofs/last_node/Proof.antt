@@ -2,7 +2,8 @@
 -- The loop keeps that the list from the node reached has the same last node; what is left of the list falls with each turn.
 use native.Mathlib.Omega.{arith}
 use Rattle.breadth_folded.specs.Threads.{lastFrom}
-use Rattle.breadth_folded.proofs.Threads.{Following, followed, ends-first, follow-start, follow-step, follow-end}
+use Rattle.graphs.proofs.Sound.{edgesLeft}
+use Rattle.breadth_folded.proofs.Threads.{Following, ends-first, follow-start, follow-step, follow-end}
 use Rattle.breadth_folded.proofs.last_node.Statement.{statement}
 use Rattle.breadth_folded.proofs.last_node.Tie as tie
 
@@ -10,7 +11,7 @@ abbrev Inv-loop : tie.InvT-loop
 Inv-loop n m x after f₀ i a₀ f a = Following n m after (lastFrom m after x) f a
 
 abbrev μ-loop : tie.MeasureT-loop
-μ-loop n m x after f₀ i a₀ f a = followed m after a
+μ-loop n m x after f₀ i a₀ f a = edgesLeft m after a
 
 sub-i : tie.Need-sub-i Inv-loop μ-loop
 sub-i c = let f = ends-first (c .pre) in omega arith

@@ -1,9 +1,11 @@
-use borrow.Author.Needs.{needs}
 -- Searching a vertex and traversing an edge call each other. Between two edges, what is still ahead makes up the search of the vertex.
--- The measures count the vertices not yet labelled, twice; an edge is one more than the vertex that it may lead to.
+-- What falls is the number of vertices not yet labelled, twice; an edge is one more than the vertex that it may lead to. Along a list it is
+-- the number of edges left.
+use borrow.Author.Needs.{needs}
 use mathlib.Core.Path.{sym, _∙_}
 use Prim.Native.Nat.{ℕ, _+_, _-_, _*_, _<_}
 use native.Mathlib.Omega.{arith}
+use Rattle.graphs.proofs.Sound.{edgesLeft}
 use Rattle.images.specs.Checking.{image}
 use Rattle.depth_recursive.proofs.Recursion.{edge-reads, pass-held, tree-search, tree-can, tree-falls, tree-lengths, tree-held, search-lengths, search-reads, search-begins, search-falls, Loop, way-at, way-lengths, way-ends, way-edge, way-can, way-turns, way-falls}
 use borrow.Fn.Kinds.{In}
@@ -53,7 +55,7 @@ abbrev search-vertex-Inv-loop : search-vertex-lts.InvT-loop
 search-vertex-Inv-loop n m u after tail marks₁ events₁ v t₁ i r₁ marks events t r = Loop (image n m after tail) (u .0) marks₁ events₁ t₁ r₁ marks events t r
 
 abbrev search-vertex-μ-loop : search-vertex-lts.MeasureT-loop
-search-vertex-μ-loop n m u after tail marks₁ events₁ v t₁ i r₁ marks events t r = 10000 - t .events
+search-vertex-μ-loop n m u after tail marks₁ events₁ v t₁ i r₁ marks events t r = edgesLeft m after r
 
 search-vertex-label-requires : (t : ℕ) → search-vertex-lts.Need-label-requires (
   label-reads.Asked,
@@ -185,7 +187,7 @@ search-vertex-loop-less : (t : ℕ) → search-vertex-lts.Need-loop-less (
 ) (search-vertex-at t) search-vertex.Post search-vertex-Inv-loop search-vertex-μ-loop
 search-vertex-loop-less t c =
     let U = way-at (c .before .before .before .before .before .before .before .before .before .before .before .before .before .before .before .before .before .before .before .before .before .before .pre .1) (c .before .before .before .before .before .before .before .before .before .before .before .before .before .before .before .label .ensures) (c .before .before .before .before .before .before .before .before .before .loop .inv) in
-    way-falls U (c .before .before .before .before .before .before .before .before .loop-test .taken) (c .before .before .before .before .before .traverse-edge .ensures (U .so-far) (c .before .before .before .before .before .before .before .before .before .before .before .before .before .before .before .before .before .before .before .before .before .before .pre .1 .marks₀) (c .before .before .before .before .before .before .before .before .before .before .before .before .before .before .before .before .before .before .before .before .before .before .pre .1 .events₀) (way-edge U (c .before .before .before .before .before .before .before .before .loop-test .taken)))
+    way-falls U (c .before .before .before .before .before .before .before .before .loop-test .taken)
 
 search-vertex-loop-again : (t : ℕ) → search-vertex-lts.Need-loop-again (
   label-reads.Asked,
