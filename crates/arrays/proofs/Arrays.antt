@@ -13,23 +13,18 @@ use Rattle.lists.specs.Counts.{allTo}
 use Rattle.lists.specs.Words.{at, valuesFrom}
 use Rattle.lists.proofs.Tests.{and-true, both, Compared, equal, other, compare}
 use Rattle.lists.proofs.Counts.{all-at, all-of}
+use Rattle.lists.proofs.Words.{read-at, word-here}
 use Rattle.graphs.specs.Nodes.{Vertex}
 use Rattle.graphs.specs.Image.{to}
 use Rattle.graphs.specs.ArrayForm.{ArrayForm, arrayGraph, arrayLeft, numbersLeft}
-use Rattle.graphs.specs.Refusals.{refuse, vertexOut, firstOut, tailOut, sizeRefusals, arrayAreas, arrayNumber, lent}
+use Rattle.graphs.specs.Refusals.{refuse, vertexOut, firstOut, tailOut, sizeRefusals, arrayAreas, arrayNumber, lent, unlessRefused}
 use Rattle.graphs.proofs.Nodes.{vertex-is}
-use Rattle.graphs.proofs.Refusals.{all-false, long}
+use Rattle.graphs.proofs.Refusals.{refused, all-false, long}
 use Rattle.graphs.proofs.Arrays.{part-values, array-same}
-use Rattle.images.proofs.Checks.{word-here}
-use Rattle.arrays.specs.Arrays.{unlessRefused, arrayIn, partOf, queried}
+use Rattle.arrays.specs.Arrays.{arrayIn, partOf, queried}
 use Rattle.arrays.specs.Claims.{QueryClaim, ConvertClaim}
 
 -- ---- first positions
--- A word as the code reads it.
-pub read-at : (l : List ℕ) (u : ℕ) → at 0 l u ≡ getD l (u - 1) 0
-unfolding at
-read-at l u = refl
-
 next-word : (l : List ℕ) (i : ℕ) → at 0 l (suc (suc i)) ≡ getD l (i + 1) 0
 next-word l i = word-here l (suc i) ∙ ap (λ (j : ℕ). getD l j 0) (sym (add-one i))
 
@@ -146,11 +141,6 @@ convert-queries g areas firsts tails h u v =
     ∙ map-twice (arrayGraph a .to) (at (g .n) (numbersLeft g [])) (to g) (g .n) (at 0 (a .firsts) u - 1) (at 0 (a .firsts) (suc u) - at 0 (a .firsts) u)
     (λ p q r. same .targets p (omega arith, omega (arith, read-at (a .firsts) u, word-here (a .firsts) u)))
     ∙ ap (map (to g)) (same .lists u v)
-
--- A refused call leaves the old words.
-pub refused : (k : ℕ) (new old : List ℕ) → (k ≡ 0 → ⊥) → old ≡ unlessRefused k new old
-refused zero new old h = absurd (h refl)
-refused (suc k) new old h = refl
 
 -- k is the number of a query.
 module _ (a : ArrayForm) (u k : ℕ) (is : k ≡ arrayNumber a u []) where

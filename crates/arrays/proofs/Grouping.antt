@@ -9,7 +9,7 @@ use lib.ListN.{length, getD, set, length-append, length-map}
 use borrow.Author.Tests.{le-ltb}
 use Rattle.lists.specs.Members.{Mem, here, there}
 use Rattle.lists.specs.Words.{at, overlay, pasted, valuesFrom}
-use Rattle.lists.proofs.Words.{read-past, length-values, values-append, pasted-front, pasted-none, pasted-next, pasted-pasted, length-pasted}
+use Rattle.lists.proofs.Words.{read-past, length-values, values-append, pasted-front, pasted-none, pasted-next, pasted-pasted, length-pasted, read-at}
 use Rattle.graphs.specs.Nodes.{Edge}
 use Rattle.graphs.specs.Image.{Image, edgesOf, to, listsTo}
 use Rattle.graphs.specs.ArrayForm.{arrayOf, numbersOf}
@@ -19,7 +19,6 @@ use Rattle.graphs.proofs.Sound.{Sound, head0, Linked, image-sound}
 use Rattle.graphs.proofs.Arrays.{lists-few}
 use Rattle.arrays.specs.Arrays.{convertedAreas, convertNumber}
 use Rattle.arrays.specs.Grouping.{CanList, CanGroup}
-use Rattle.arrays.proofs.Arrays.{read-at}
 
 -- A word stored at position q, behind the words pasted from position p on.
 store : (p q w : ℕ) (area ws now : List ℕ) → now ≡ pasted (p - 1) ws area → 1 ≤ p → q ≡ p + length ws → q ≤ length area → set now (q - 1) w ≡ pasted (p - 1) (ws ++ (w ∷ [])) area

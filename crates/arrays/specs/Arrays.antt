@@ -1,16 +1,11 @@
 -- Converting an image to array form, and asking an array form for the references of one element.
 use mathlib.Core.List.{List, [], _∷_}
-use Prim.Native.Nat.{ℕ, zero, suc, _+_, _-_}
+use Prim.Native.Nat.{ℕ, suc, _+_, _-_}
 use lib.ListN.{take, drop}
 use Rattle.lists.specs.Words.{at}
 use Rattle.graphs.specs.Image.{Image}
 use Rattle.graphs.specs.ArrayForm.{ArrayForm}
-use Rattle.graphs.specs.Refusals.{Lent, lent, imageNumber, arrayNumber}
-
--- A refused call leaves the old words, a call taken the new ones.
-abbrev pub unlessRefused : ℕ → List ℕ → List ℕ → List ℕ
-unlessRefused zero new old = new
-unlessRefused (suc k) new old = old
+use Rattle.graphs.specs.Refusals.{unlessRefused, Lent, lent, imageNumber, arrayNumber}
 
 -- The areas that the converter writes: n + 1 first positions, m tails, m edge numbers.
 abbrev pub convertedAreas : Image → List ℕ → List ℕ → List ℕ → List Lent

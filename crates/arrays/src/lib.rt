@@ -13,9 +13,9 @@ ghost use lib.ListN.{length};
 ghost use Rattle.lists.specs.Words.{overlay, pasted};
 ghost use Rattle.graphs.specs.Image.{to, edgesOf};
 ghost use Rattle.graphs.specs.ArrayForm.{arrayOf, numbersOf};
-ghost use Rattle.graphs.specs.Refusals.{arrayNumber, firstOut};
+ghost use Rattle.graphs.specs.Refusals.{arrayNumber, firstOut, unlessRefused};
 ghost use Rattle.images.specs.Checking.{image};
-ghost use Rattle.arrays.specs.Arrays.{unlessRefused, convertNumber, queried, arrayIn};
+ghost use Rattle.arrays.specs.Arrays.{convertNumber, queried, arrayIn};
 ghost use Rattle.arrays.specs.Grouping.{CanList, CanGroup};
 
 // Writes the edges of the list of u from position p on, each with the vertex that it leads to, and gives the position past them.

@@ -9,17 +9,17 @@ use lib.ListN.{length, getD, set}
 use Rattle.lists.specs.Members.{Mem, here, there, NoDup}
 use Rattle.lists.specs.Words.{at, put}
 use Rattle.lists.proofs.Members.{each-cons, pigeonhole}
-use Rattle.lists.proofs.Words.{length-put, put-put, put-at, put-comm, at-put, at-other}
+use Rattle.lists.proofs.Words.{length-put, put-put, put-at, put-comm, at-put, at-other, read-at}
 use Rattle.graphs.specs.Nodes.{Vertex, Edge}
 use Rattle.graphs.specs.Events.{event, label, scan, traverse, History, _▸_}
 use Rattle.graphs.specs.Image.{Image, chain, edgesOf, graphOf}
 use Rattle.graphs.specs.Results.{marksLeft, eventsLeft}
+use Rattle.graphs.specs.Refusals.{unlessRefused}
 use Rattle.graphs.proofs.Labels.{Labels}
 use Rattle.graphs.proofs.Sound.{head0, Linked, Sound, chain-of, edgesLeft, left-falls, graph-closed}
 use Rattle.graphs.proofs.Queues.{Waiting, Scanning, queue-begin, queue-scan, queue-end}
+use Rattle.graphs.proofs.Refusals.{refused}
 use Rattle.images.specs.Checking.{image}
-use Rattle.arrays.specs.Arrays.{unlessRefused}
-use Rattle.arrays.proofs.Arrays.{read-at, refused}
 use Rattle.breadth_folded.specs.declared.Scanned.{Scanned}
 use Rattle.walks.specs.Promises.{walkNumber, breadthWalk, tallied}
 use Rattle.walks.specs.Writing.{noEvents, total, Held}

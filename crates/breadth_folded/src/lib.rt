@@ -14,8 +14,8 @@ ghost use mathlib.Core.Path.{_≡_};
 ghost use mathlib.Core.List.{List, []};
 ghost use Prim.Native.Nat.{ℕ, _+_};
 ghost use Rattle.graphs.specs.Results.{marksLeft, eventsLeft};
+ghost use Rattle.graphs.specs.Refusals.{unlessRefused};
 ghost use Rattle.images.specs.Checking.{image};
-ghost use Rattle.arrays.specs.Arrays.{unlessRefused};
 ghost use Rattle.walks.specs.Promises.{walkNumber, breadthWalk, tallied};
 ghost use Rattle.breadth_folded.specs.Threads.{Ends, lastFrom, FoldedAt, SomeFoldedAt, FoldedScanned, CanSearch, Ended};
 

@@ -14,20 +14,18 @@ use borrow.Author.Tests.{ltb-true, ltb-false}
 use Rattle.lists.specs.Members.{here}
 use Rattle.lists.specs.Words.{at, put, cleared}
 use Rattle.lists.proofs.Tests.{Compared, equal, other, compare}
-use Rattle.lists.proofs.Words.{values-same, but, put-filled, cleared-filled, at-filled, length-filled}
+use Rattle.lists.proofs.Words.{values-same, but, put-filled, cleared-filled, at-filled, length-filled, read-at}
 use Rattle.graphs.specs.Nodes.{Vertex, Edge}
 use Rattle.graphs.specs.Graph.{Graph, Closed}
 use Rattle.graphs.specs.Events.{event, label, scan, traverse, History, _▸_, labelled, scanned}
 use Rattle.graphs.specs.Image.{Image, graphOf}
 use Rattle.graphs.specs.Results.{marksLeft, eventsLeft, queueLeft}
-use Rattle.graphs.specs.Refusals.{lent}
+use Rattle.graphs.specs.Refusals.{lent, unlessRefused}
 use Rattle.graphs.proofs.Labels.{labels-few}
-use Rattle.graphs.proofs.Refusals.{long}
+use Rattle.graphs.proofs.Refusals.{long, refused}
 use Rattle.graphs.proofs.Results.{named-length}
 use Rattle.graphs.proofs.Sound.{graph-closed}
 use Rattle.graphs.proofs.Queues.{Waiting, Scanning, queue-begin, queue-scan, queue-end}
-use Rattle.arrays.specs.Arrays.{unlessRefused}
-use Rattle.arrays.proofs.Arrays.{read-at, refused}
 use Rattle.walks.specs.Promises.{walkNumber, breadthWalk, tallied}
 use Rattle.walks.specs.Writing.{noEvents, total, Held}
 use Rattle.breadth_queue.specs.Queues.{QueueAt, SomeQueueAt, QueueScanned, CanSearch, Ended}

@@ -13,10 +13,9 @@ use walks::walk_number;
 ghost use mathlib.Core.Path.{_≡_};
 ghost use mathlib.Core.List.{List, [], _∷_};
 ghost use Prim.Native.Nat.{ℕ, _+_};
-ghost use Rattle.graphs.specs.Refusals.{lent};
+ghost use Rattle.graphs.specs.Refusals.{lent, unlessRefused};
 ghost use Rattle.graphs.specs.Results.{marksLeft, eventsLeft, queueLeft};
 ghost use Rattle.images.specs.Checking.{image};
-ghost use Rattle.arrays.specs.Arrays.{unlessRefused};
 ghost use Rattle.walks.specs.Promises.{walkNumber, breadthWalk, tallied};
 ghost use Rattle.breadth_queue.specs.Queues.{QueueAt, SomeQueueAt, QueueScanned, CanSearch, Ended};
 

@@ -15,7 +15,7 @@ use Rattle.lists.specs.Words.{at, put, cleared, valuesFrom}
 use Rattle.lists.proofs.Tests.{Compared, equal, other, compare}
 use Rattle.lists.proofs.Members.{mem-memb, memb-false, mem-reverse}
 use Rattle.lists.proofs.Counts.{rank-none}
-use Rattle.lists.proofs.Words.{put-put, put-at, at-put, but, put-filled, at-filled, length-filled, cleared-filled, values-same}
+use Rattle.lists.proofs.Words.{put-put, put-at, at-put, but, put-filled, at-filled, length-filled, cleared-filled, values-same, word-here, read-at}
 use Rattle.graphs.specs.Nodes.{Vertex}
 use Rattle.graphs.specs.Graph.{Graph}
 use Rattle.graphs.specs.Events.{event, label, advance-tree, advance-nontree, retreat-tree, retreat-nontree, scan, History, _▸_, labelled}
@@ -27,9 +27,7 @@ use Rattle.graphs.proofs.Room.{array-ready}
 use Rattle.graphs.proofs.Places.{Frame, frame, parent, path, Above, of-rest, scene-edge}
 use Rattle.graphs.proofs.Trees.{AllTrees, no-tree, all-trees}
 use Rattle.graphs.proofs.Tails.{tails-length, tails-kept}
-use Rattle.images.proofs.Checks.{word-here}
 use Rattle.arrays.specs.Arrays.{arrayIn}
-use Rattle.arrays.proofs.Arrays.{read-at}
 use Rattle.walks.specs.declared.place.Place.{Place}
 use Rattle.walks.specs.declared.depth.Progress.{Progress}
 use Rattle.walks.specs.Progress.{depthTally}

@@ -17,7 +17,8 @@ ghost use Prim.Native.Nat.{ℕ, suc, _+_, _<_, _≤_};
 ghost use Rattle.lists.specs.Words.{at};
 ghost use Rattle.graphs.specs.ArrayForm.{arrayGraph};
 ghost use Rattle.graphs.specs.Results.{marksLeft, eventsLeft, incrementLeft};
-ghost use Rattle.arrays.specs.Arrays.{unlessRefused, arrayIn};
+ghost use Rattle.graphs.specs.Refusals.{unlessRefused};
+ghost use Rattle.arrays.specs.Arrays.{arrayIn};
 ghost use Rattle.walks.specs.Promises.{arrayWalkNumber, arrayWalk, tallied};
 ghost use Rattle.depth_array.specs.Increments.{ArrayAt, SomeArrayAt, CanSearch, Ended};
 

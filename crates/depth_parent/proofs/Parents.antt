@@ -12,7 +12,7 @@ use Rattle.lists.specs.Members.{Mem, here, there, memb}
 use Rattle.lists.specs.Words.{at, put, cleared}
 use Rattle.lists.proofs.Tests.{Compared, equal, other, compare}
 use Rattle.lists.proofs.Members.{memb-false}
-use Rattle.lists.proofs.Words.{but, put-filled, values-same, at-filled, length-filled, cleared-filled}
+use Rattle.lists.proofs.Words.{but, put-filled, values-same, at-filled, length-filled, cleared-filled, read-at}
 use Rattle.graphs.specs.Nodes.{Vertex, Edge}
 use Rattle.graphs.specs.Graph.{Graph}
 use Rattle.graphs.specs.Events.{event, label, advance-tree, advance-nontree, retreat-tree, retreat-nontree, scan, code, same, History, _▸_, labelled}
@@ -31,7 +31,6 @@ use Rattle.walks.specs.declared.depth.Progress.{Progress}
 use Rattle.walks.specs.Progress.{depthTally}
 use Rattle.depth_parent.specs.Parents.{Entered, ParentAt, SomeParentAt, CanSearch, Ended}
 use Rattle.walks.specs.Moves.{Underway}
-use Rattle.arrays.proofs.Arrays.{read-at}
 use Rattle.walks.proofs.Reading.{target, target-is}
 use Rattle.walks.proofs.Begins.{begins}
 use Rattle.walks.proofs.Storing.{all-cleared}

@@ -18,10 +18,9 @@ ghost use mathlib.Core.Logic.{_≢_};
 ghost use mathlib.Core.List.{List, [], _∷_};
 ghost use Prim.Native.Nat.{ℕ, _+_, _≤_};
 ghost use Rattle.graphs.specs.Image.{graphOf};
-ghost use Rattle.graphs.specs.Refusals.{lent};
+ghost use Rattle.graphs.specs.Refusals.{lent, unlessRefused};
 ghost use Rattle.graphs.specs.Results.{marksLeft, eventsLeft, parentLeft};
 ghost use Rattle.images.specs.Checking.{image};
-ghost use Rattle.arrays.specs.Arrays.{unlessRefused};
 ghost use Rattle.walks.specs.Promises.{walkNumber, depthWalk, tallied};
 ghost use Rattle.depth_parent.specs.Parents.{ParentAt, SomeParentAt, CanSearch, Ended};
 

@@ -11,18 +11,19 @@ use borrow.Author.Tests.{eq-eqb, ne-eqb, not-true, not-false}
 use Rattle.lists.specs.Members.{Mem, here, there, memb}
 use Rattle.lists.specs.Words.{at, cleared}
 use Rattle.lists.proofs.Members.{mem-nil, memb-false, pigeonhole}
+use Rattle.lists.proofs.Words.{read-at}
 use Rattle.graphs.specs.Nodes.{Vertex, Edge}
 use Rattle.graphs.specs.Events.{Kind, event, label, advance-tree, advance-nontree, retreat-nontree, retreat-tree, scan, code, same, History, _▸_, labelled}
 use Rattle.graphs.specs.Results.{marksLeft, eventsLeft}
 use Rattle.graphs.specs.Search.{recorder, cross, walkEdges, depthFirst}
 use Rattle.graphs.specs.Image.{Image, edgesOf, to, graphOf}
+use Rattle.graphs.specs.Refusals.{unlessRefused}
 use Rattle.graphs.proofs.Labels.{Labels, label-ok, labels-few}
 use Rattle.graphs.proofs.Room.{profile-ready}
 use Rattle.graphs.proofs.Sound.{Sound, head0, Linked, edgesLeft, left-falls, graph-closed}
 use Rattle.graphs.proofs.DepthGrowth.{search-adds, search-labels}
 use Rattle.graphs.proofs.Places.{deep, walk, edges-add, suffix-length, can-search, deep-unroll}
-use Rattle.arrays.specs.Arrays.{unlessRefused}
-use Rattle.arrays.proofs.Arrays.{read-at, refused}
+use Rattle.graphs.proofs.Refusals.{refused}
 use Rattle.walks.specs.Promises.{walkNumber, depthWalk, tallied}
 use Rattle.walks.specs.declared.depth.Progress.{Progress}
 use Rattle.walks.specs.Writing.{noEvents, Roomy}

@@ -8,10 +8,9 @@ use native.Mathlib.Omega.{arith}
 use lib.ListN.{set, getD}
 use borrow.Author.Tests.{le-leb, lt-leb, eq-eqb, ne-eqb}
 use Rattle.lists.specs.Words.{at, put, pasted}
-use Rattle.lists.proofs.Words.{read-past}
+use Rattle.lists.proofs.Words.{read-past, read-at}
 use Rattle.graphs.specs.Nodes.{isVertex, isLink}
 use Rattle.graphs.proofs.Nodes.{vertex-yes}
-use Rattle.arrays.proofs.Arrays.{read-at}
 use Rattle.folding.specs.Machine.{Config, tree, nontree, fresh, target, closed, fits, enact}
 use Rattle.folded.specs.Steps.{Attempt, out, trying, onward}
 use Rattle.folded.proofs.Stores.{store-first, store-past, unfit-left, fit-made}

@@ -7,8 +7,7 @@ use Prim.Native.Nat.{ℕ, suc, _+_, _-_, _*_, _≤_, _<_}
 use native.Mathlib.Omega.{arith}
 use lib.ListN.{length, getD, set}
 use Rattle.lists.specs.Words.{at, put, pasted}
-use Rattle.lists.proofs.Words.{at-put, at-other, pasted-pasted}
-use Rattle.arrays.proofs.Arrays.{read-at}
+use Rattle.lists.proofs.Words.{at-put, at-other, pasted-pasted, read-at}
 use Rattle.folding.specs.Machine.{Config, Step, fits, enact}
 use Rattle.folded.specs.Steps.{out, made, trying}
 

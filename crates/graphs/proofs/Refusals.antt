@@ -4,15 +4,20 @@ use mathlib.Core.Path.{_≡_, refl, sym, ap, _∙_}
 use mathlib.Core.Logic.{_↔_, _≢_}
 use mathlib.Core.Bool.{Bool, true, false, cond, not, _||_}
 use mathlib.Core.List.{List, [], _∷_, _++_}
-use Prim.Native.Nat.{ℕ, _≤_, _<_}
+use Prim.Native.Nat.{ℕ, zero, suc, _≤_, _<_}
 use native.Mathlib.Omega.{arith}
 use lib.ListN.{length}
 use lib.Dec.{ltb}
 use borrow.Author.Tests.{eqb-false, ltb-false}
 use Rattle.lists.proofs.Tests.{clash, neither}
 use Rattle.graphs.specs.Nodes.{isVertex}
-use Rattle.graphs.specs.Refusals.{Refusal, refuse, firstOf, verticesOut, edgesOut, vertexOut, afterOut, tailOut, listOut, Lent, lent, short, imageAreas, sound, imageNumber, searchNumber}
+use Rattle.graphs.specs.Refusals.{Refusal, refuse, firstOf, unlessRefused, verticesOut, edgesOut, vertexOut, afterOut, tailOut, listOut, Lent, lent, short, imageAreas, sound, imageNumber, searchNumber}
 use Rattle.graphs.specs.Claims.{SoundClaim, CheckedClaim}
+
+-- A refused call leaves the old words.
+pub refused : (k : ℕ) (new old : List ℕ) → (k ≡ 0 → ⊥) → old ≡ unlessRefused k new old
+refused zero new old h = absurd (h refl)
+refused (suc k) new old h = refl
 
 -- No number is 0.
 abbrev pub Numbered : List Refusal → Type 0

@@ -1,7 +1,7 @@
 -- The conditions of document 01's table "Turned back" that need no state, and the order in which a call meets them.
 use mathlib.Core.Bool.{Bool, false, cond, not, _||_}
 use mathlib.Core.List.{List, [], _∷_, _++_}
-use Prim.Native.Nat.{ℕ, _+_}
+use Prim.Native.Nat.{ℕ, zero, suc, _+_}
 use lib.Dec.{eqb, ltb, leb}
 use lib.ListN.{length}
 use Rattle.lists.specs.Counts.{countIn, allTo}
@@ -18,6 +18,11 @@ pub data Refusal : Type 0 where
 abbrev pub firstOf : List Refusal → ℕ
 firstOf [] = 0
 firstOf (refuse k b ∷ cs) = cond b k (firstOf cs)
+
+-- A refused call leaves the old words, a call taken the new ones.
+abbrev pub unlessRefused : ℕ → List ℕ → List ℕ → List ℕ
+unlessRefused zero new old = new
+unlessRefused (suc k) new old = old
 
 -- 1: n is 0 or over 1,000.
 abbrev pub verticesOut : ℕ → Bool

@@ -16,18 +16,13 @@ use Rattle.lists.specs.Words.{at, put}
 use Rattle.lists.proofs.Tests.{clash, and-true, Compared, equal, other, compare}
 use Rattle.lists.proofs.Members.{mem-nil, each-cons, mem-one, mem-append, nodup-left, pigeonhole}
 use Rattle.lists.proofs.Counts.{all-fails, count-once, count-all}
-use Rattle.lists.proofs.Words.{length-put, at-put, at-other}
+use Rattle.lists.proofs.Words.{word-here, length-put, at-put, at-other}
 use Rattle.graphs.specs.Nodes.{Edge, isLink}
 use Rattle.graphs.specs.Image.{Image, chain, edgesOf, listsTo}
 use Rattle.graphs.specs.Refusals.{afterOut, listOut}
 use Rattle.graphs.proofs.Nodes.{link-not-null}
 use Rattle.graphs.proofs.Sound.{links-in, lists-edges, counted}
 use Rattle.images.specs.Checking.{image, listFrom, Sized, Chained, Flagging, flagAll, noFlags, Follows}
-
--- The word of node i + 1, as the code reads it.
-pub word-here : (area : List ℕ) (i : ℕ) → at 0 area (suc i) ≡ getD area i 0
-unfolding at
-word-here area i = let e : suc i - 1 ≡ i = omega arith in ap (λ (j : ℕ). getD area j 0) e
 
 -- ---- a test of each word of an area
 -- `out` says whether one of the first i words, of k, fails the test.

@@ -14,7 +14,16 @@ use borrow.Author.Tests.{ne-eqb}
 use Rattle.lists.specs.Words.{at, put, overlay, pasted, cleared, valuesFrom, filled}
 use Rattle.lists.proofs.Tests.{Compared, equal, other, compare}
 
--- The word of node r in an area that begins with node n + 1, as code reads it: by place.
+-- The word of node x in an area that begins with node 1, as code reads it: by place.
+pub read-at : (area : List ℕ) (x : ℕ) → at 0 area x ≡ getD area (x - 1) 0
+unfolding at
+read-at area x = refl
+
+pub word-here : (area : List ℕ) (i : ℕ) → at 0 area (suc i) ≡ getD area i 0
+unfolding at
+word-here area i = let e : suc i - 1 ≡ i = omega arith in ap (λ (j : ℕ). getD area j 0) e
+
+-- The same in an area that begins with node n + 1.
 pub read-past : (n : ℕ) (area : List ℕ) (r : ℕ) → at n area r ≡ getD area (r - n - 1) 0
 unfolding at
 read-past n area r = let e : r - suc n ≡ r - n - 1 = omega arith in ap (λ (i : ℕ). getD area i 0) e

@@ -8,9 +8,8 @@ use Prim.Native.Nat.{ℕ, zero, suc, _+_, _≤_, _<_}
 use native.Mathlib.Omega.{arith}
 use lib.ListN.{length}
 use Rattle.graphs.specs.Image.{Image}
-use Rattle.graphs.specs.Refusals.{Lent, lent, short, searchNumber}
+use Rattle.graphs.specs.Refusals.{Lent, lent, short, searchNumber, unlessRefused}
 use Rattle.folding.specs.Calls.{unless, unopened, openNumber, openedAt, openReply, opening}
-use Rattle.arrays.specs.Arrays.{unlessRefused}
 use Rattle.states.specs.Answers.{Seen, seenOf}
 use Rattle.profile_walker.specs.Handed.{numberIn, openNumberIn}
 use Rattle.profile_walker.proofs.Numbers.{says-short, search-long, search-short}

@@ -6,7 +6,7 @@ use panel::count_card;
 use panel::shifted;
 ghost use mathlib.Core.Path.{_≡_};
 ghost use Rattle.lists.specs.Words.{overlay};
-ghost use Rattle.arrays.specs.Arrays.{unlessRefused};
+ghost use Rattle.graphs.specs.Refusals.{unlessRefused};
 ghost use Rattle.panel.specs.Panel.{shiftedOf};
 ghost use Rattle.profile_walker.specs.Handed.{stateWords, acceptedIn};
 

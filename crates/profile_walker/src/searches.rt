@@ -15,10 +15,10 @@ ghost use Rattle.lists.specs.Words.{overlay};
 ghost use Rattle.graphs.specs.ArrayForm.{arrayGraph};
 ghost use Rattle.graphs.specs.Events.{tally};
 ghost use Rattle.graphs.specs.Image.{graphOf};
-ghost use Rattle.graphs.specs.Refusals.{lent};
+ghost use Rattle.graphs.specs.Refusals.{lent, unlessRefused};
 ghost use Rattle.graphs.specs.Results.{marksLeft, eventsLeft, parentLeft, queueLeft, incrementLeft};
 ghost use Rattle.images.specs.Checking.{image};
-ghost use Rattle.arrays.specs.Arrays.{unlessRefused, arrayIn};
+ghost use Rattle.arrays.specs.Arrays.{arrayIn};
 ghost use Rattle.walks.specs.Promises.{walkNumber, depthWalk, breadthWalk, arrayWalk};
 ghost use Rattle.profile_walker.specs.Handed.{arrayWalkNumberIn};
 

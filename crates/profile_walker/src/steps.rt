@@ -16,10 +16,10 @@ ghost use mathlib.Core.List.{List};
 ghost use Prim.Native.Nat.{ℕ, _≤_};
 ghost use lib.ListN.{length};
 ghost use Rattle.lists.specs.Words.{overlay};
+ghost use Rattle.graphs.specs.Refusals.{unlessRefused};
 ghost use Rattle.folding.specs.Calls as calls;
 ghost use Rattle.folding.specs.Calls.{runFor, single, rollBack, openedAt, openReply};
 ghost use Rattle.images.specs.Checking.{image};
-ghost use Rattle.arrays.specs.Arrays.{unlessRefused};
 ghost use Rattle.states.specs.Answers.{told, seenOf};
 ghost use Rattle.profile_walker.specs.Handed.{configWords, openNumberIn, servedIn, handing, handed};
 

@@ -12,9 +12,8 @@ use Rattle.graphs.specs.Events.{History, tally, words, renamed}
 use Rattle.graphs.specs.Results.{marksLeft, eventsLeft}
 use Rattle.graphs.specs.Image.{Image, graphOf}
 use Rattle.graphs.specs.ArrayForm.{ArrayForm, arrayGraph, arrayLeft, numbersLeft}
-use Rattle.graphs.specs.Refusals.{Lent, short, imageAreas, sound}
+use Rattle.graphs.specs.Refusals.{Lent, short, imageAreas, sound, unlessRefused}
 use Rattle.graphs.specs.Claims.{DepthClaim, BreadthClaim, SameSearch}
-use Rattle.arrays.specs.Arrays.{unlessRefused}
 use Rattle.walks.specs.Promises.{writtenAreas, walkNumber, arrayWalkNumber, depthWalk, arrayWalk, breadthWalk, tallied}
 
 -- A walk of a linked image is taken exactly where the profile is sound and every area is as long as stated.

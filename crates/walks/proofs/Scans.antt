@@ -12,6 +12,7 @@ use borrow.Author.Tests.{eq-eqb, ne-eqb, not-true, not-false}
 use Rattle.lists.specs.Members.{Mem, here, NoDup, memb}
 use Rattle.lists.specs.Words.{at}
 use Rattle.lists.proofs.Members.{split, nodup-left, mem-left, mem-right, mem-done}
+use Rattle.lists.proofs.Words.{read-at}
 use Rattle.graphs.specs.Nodes.{Vertex, Edge}
 use Rattle.graphs.specs.Graph.{Graph, Closed}
 use Rattle.graphs.specs.Events.{event, label, scan, traverse, History, _▸_, labelled, scanned}
@@ -22,7 +23,6 @@ use Rattle.graphs.proofs.Breadth.{Kept}
 use Rattle.graphs.proofs.Room.{profile-ready}
 use Rattle.graphs.proofs.Sound.{Sound, head0, Linked, graph-closed}
 use Rattle.graphs.proofs.Queues.{Waiting, Scanning, queue-first, queue-begin, queue-pass, queue-join, queue-room, queue-room-edge, queue-end}
-use Rattle.arrays.proofs.Arrays.{read-at}
 use Rattle.walks.proofs.Reading.{target, target-is}
 use Rattle.walks.specs.Promises.{breadthWalk}
 use Rattle.walks.specs.Writing.{total, Held, Roomy}

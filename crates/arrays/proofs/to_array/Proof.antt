@@ -1,8 +1,8 @@
 -- The converter gives its number, and writes the array form where that is 0.
 -- The number is asked first, on areas that are only read; where it is 0 there is room, and the writing is that of `group`.
 use borrow.Author.Needs.{needs}
+use Rattle.graphs.proofs.Refusals.{refused}
 use Rattle.images.specs.Checking.{image}
-use Rattle.arrays.proofs.Arrays.{refused}
 use Rattle.arrays.proofs.Grouping.{convert-group}
 use Rattle.arrays.proofs.to_array.Statement.{statement}
 use Rattle.arrays.proofs.to_array.Tie as tie

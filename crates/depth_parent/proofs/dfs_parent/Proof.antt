@@ -1,12 +1,12 @@
 -- The walk gives its number, and leaves what the search leaves where that is 0.
 -- The number is asked first, on areas that are only read; where it is 0 the search can begin.
+use Rattle.graphs.proofs.Refusals.{refused}
 use Rattle.walks.proofs.Numbers.{own-test}
 use mathlib.Core.Path.{_≡_, sym, _∙_}
 use mathlib.Core.List.{[], _∷_}
 use borrow.Author.Needs.{needs}
 use Rattle.graphs.specs.Refusals.{lent}
 use Rattle.images.specs.Checking.{image}
-use Rattle.arrays.proofs.Arrays.{refused}
 use Rattle.walks.proofs.Begins.{zeros-tallied}
 use Rattle.depth_parent.proofs.Parents.{can-search}
 use Rattle.depth_parent.proofs.dfs_parent.Statement.{statement}

@@ -3,7 +3,7 @@
 use mathlib.Core.Path.{refl, sym, _∙_}
 use mathlib.Core.Logic.{_≢_}
 use borrow.Author.Needs.{needs}
-use Rattle.arrays.proofs.Arrays.{refused}
+use Rattle.graphs.proofs.Refusals.{refused}
 use Rattle.walks.proofs.Begins.{zeros-tallied}
 use Rattle.walks.proofs.ArrayBegins.{array-begins}
 use Rattle.depth_array.proofs.array.dfs_array.Statement.{statement}

@@ -2,7 +2,7 @@
 -- A refusal leaves figure and words; of a card taken both are stored as counted.
 use mathlib.Core.Path.{refl, sym, ap, _∙_}
 use Rattle.lists.specs.Words.{overlay}
-use Rattle.arrays.proofs.Arrays.{refused}
+use Rattle.graphs.proofs.Refusals.{refused}
 use Rattle.panel.specs.declared.Counted.{Counted}
 use Rattle.profile_walker.specs.Handed.{stateWords}
 use Rattle.profile_walker.proofs.Handing.{accepted-short, counted-in, figure-kept}

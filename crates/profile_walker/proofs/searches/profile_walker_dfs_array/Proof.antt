@@ -4,8 +4,8 @@ use mathlib.Core.Path.{refl, sym, ap, _∙_}
 use mathlib.Core.List.{List}
 use Prim.Native.Nat.{ℕ}
 use Rattle.lists.specs.Words.{overlay}
+use Rattle.graphs.proofs.Refusals.{refused}
 use Rattle.arrays.specs.Arrays.{arrayIn}
-use Rattle.arrays.proofs.Arrays.{refused}
 use Rattle.profile_walker.proofs.Numbers.{array-long, array-short}
 use borrow.Author.Needs.{needs}
 use Rattle.profile_walker.proofs.searches.profile_walker_dfs_array.Statement.{statement}

@@ -4,8 +4,8 @@ use mathlib.Core.Path.{sym, ap, _∙_}
 use mathlib.Core.List.{List, []}
 use Prim.Native.Nat.{ℕ}
 use Rattle.lists.specs.Words.{overlay}
+use Rattle.graphs.proofs.Refusals.{refused}
 use Rattle.images.specs.Checking.{image}
-use Rattle.arrays.proofs.Arrays.{refused}
 use Rattle.profile_walker.proofs.Numbers.{walk-long, walk-short}
 use borrow.Author.Needs.{needs}
 use Rattle.profile_walker.proofs.searches.profile_walker_dfs_recursive.Statement.{

@@ -2,9 +2,9 @@
 -- What is left, and the state stored, is what is seen of the opening by its number.
 use mathlib.Core.Path.{sym, ap, _∙_}
 use Rattle.lists.specs.Words.{overlay}
+use Rattle.graphs.proofs.Refusals.{refused}
 use Rattle.folding.specs.Machine.{Config}
 use Rattle.images.specs.Checking.{image}
-use Rattle.arrays.proofs.Arrays.{refused}
 use Rattle.profile_walker.specs.Handed.{configWords}
 use Rattle.profile_walker.proofs.Opening.{opened, open-short}
 use borrow.Author.Needs.{needs}
