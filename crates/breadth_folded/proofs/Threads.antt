@@ -438,7 +438,7 @@ module _ {g : Image} {start v f : ℕ} {marks₀ events₀ after₁ marks₁ eve
           go [] k p = refl
           go (r ∷ rs) k p = absurd (let z : a ≡ r = k in let w = p r (here refl) in omega arith)
 
-      pub scan-end : {events₂ t₂ : List ℕ} → Emits 6 0 v events t events₂ t₂ → FoldedScanned g start v marks₀ events₀ after marks events₂ t₁ (record { e = e; f = last; tally = t₂ })
+      pub scan-end : {events₂ t₂ : List ℕ} → Emits 6 0 v events t events₂ t₂ → FoldedScanned g start v marks₀ events₀ after marks events₂ t₁ (record { e = e; f = last; next = a; tally = t₂ })
       scan-end w = record {
         h = P .h ▸ event scan 0 v;
         q = P .q;
@@ -447,6 +447,7 @@ module _ {g : Image} {start v f : ℕ} {marks₀ events₀ after₁ marks₁ eve
         held = over-held (P .in-scan) w;
         links = P .links;
         end = sym (ap (lastOf e) none-ahead) ∙ P .on-list .ends;
+        next = word ∙ sym (read-at after e) ∙ passing-read ∙ ap (λ (l : List ℕ). head0 (l ++ P .q)) none-ahead;
         last = P .end;
         more = omega (arith, over-total (P .in-scan) w, P .more);
       }
@@ -557,7 +558,7 @@ module _ {g : Image} {start v₁ f₁ : ℕ} {marks₀ events₀ after₁ marks�
         go [] W l k = record { held = subst (λ (h : History). Held (g .n + g .m) h marks₀ events₀ marks events t) (queue-end (graphOf g) start W) (Z .held); links = l }
         go (y ∷ q) W l k = absurd (let z : v ≡ y = k in let p = waiting-queued W .all y (here refl) in omega arith)
 
-    -- The first was scanned: the next is read at its last node, whose word is cleared.
+    -- The first was scanned: the word of its last node, which leads on to the next, is cleared.
     module _ {after′ marks′ events′ : List ℕ} {s : Scanned} (D : FoldedScanned g start v marks₀ events₀ after′ marks′ events′ t s) where
       search-leading : Leading g after′ (s .e)
       search-leading =
@@ -573,14 +574,14 @@ module _ {g : Image} {start v₁ f₁ : ℕ} {marks₀ events₀ after₁ marks�
       search-less : 10000 - total (s .tally) < 10000 - total t
       search-less = omega (arith, D .more, held-total (D .held), waiting-room (D .waiting) (graph-closed g (F .sound)), F .roomy .few)
 
-      search-more : Searching g start marks₀ events₀ (set after′ (s .e - 1) 0) marks′ events′ (s .tally) (s .f) (getD after′ (s .e - 1) 0)
+      search-more : Searching g start marks₀ events₀ (set after′ (s .e - 1) 0) marks′ events′ (s .tally) (s .f) (s .next)
       search-more = record {
         h = D .h;
         w = D .q;
         waiting = D .waiting;
         held = D .held;
         links = store-word after′ (s .e) 0 ∙ (λ i. put 0 (D .links i) (D .end i) 0) ∙ threaded-leave (F .sound) v (D .q) (D .queued);
-        first = sym (read-at after′ (s .e)) ∙ (λ i. at 0 (D .links i) (D .end i)) ∙ threaded-first (F .sound) v (D .q) (D .queued);
+        first = D .next;
         last = λ y q e. D .last ∙ ap (λ (l : List ℕ). lastNode g (rear v l)) e;
       }
 
@@ -628,7 +629,7 @@ module _ {n m start : ℕ} {after₁ tail marks₀ events₀ marks₁ events₁ 
 pub search-again : {n m start : ℕ} {after₁ tail marks₁ events₁ t₁ : List ℕ} {f₁ v₁ : ℕ} {after marks events t : List ℕ} {f v : ℕ} → SearchKept n m start after₁ tail marks₁ events₁ t₁ f₁ v₁ after marks events t f v
     → (v ≡ 0 → ⊥)
     → {after′ marks′ events′ : List ℕ} {s : Scanned} → ScanPromise n m start v f after tail marks events t after′ marks′ events′ s
-    → SearchKept n m start after₁ tail marks₁ events₁ t₁ f₁ v₁ (set after′ (s .e - 1) 0) marks′ events′ (s .tally) (s .f) (getD after′ (s .e - 1) 0)
+    → SearchKept n m start after₁ tail marks₁ events₁ t₁ f₁ v₁ (set after′ (s .e - 1) 0) marks′ events′ (s .tally) (s .f) (s .next)
 search-again {after₁ = after₁} I ne P marks₀ events₀ F = let Z = I marks₀ events₀ F in search-more F Z (P after₁ marks₀ events₀ (search-next F Z ne))
 
 -- ---- the whole walk

@@ -9,7 +9,7 @@ use Rattle.graphs.specs.Nodes.{Vertex, Edge}
 use Rattle.graphs.specs.Events.{History}
 use Rattle.graphs.specs.Image.{Image, chain, edgesOf, graphOf}
 use Rattle.graphs.proofs.Labels.{Labels}
-use Rattle.graphs.proofs.Sound.{Linked, Sound}
+use Rattle.graphs.proofs.Sound.{head0, Linked, Sound}
 use Rattle.graphs.proofs.Queues.{Waiting}
 use Rattle.images.specs.Checking.{image}
 use Rattle.breadth_folded.specs.declared.Scanned.{Scanned}
@@ -77,6 +77,7 @@ pub record FoldedScanned (g : Image) (start v : ℕ) (marks₀ events₀ after m
   pub held : Held (g .n + g .m) h marks₀ events₀ marks events (s .tally)
   pub links : after ≡ threaded g (v ∷ q)
   pub end : s .e ≡ lastNode g v
+  pub next : s .next ≡ head0 q
   pub last : s .f ≡ lastNode g (rear v q)
   pub more : total t < total (s .tally)
 

@@ -35,10 +35,11 @@ fn last_node(n: u16, m: u16, x: u16, after: &[u16]) -> u16
     f
 }
 
-// What a scan gives: the last node examined, the last node of the queue, and the tally.
+// What a scan gives: the last node examined, the last node of the queue, the vertex that waits next, 0 where none does, and the tally.
 pub(crate) struct Scanned {
     pub e: u16,
     pub f: u16,
+    pub next: u16,
     pub tally: [u32; 7],
 }
 
@@ -85,6 +86,7 @@ fn scan_vertex(
     Scanned {
         e: e,
         f: last,
+        next: a,
         tally: s,
     }
 }
@@ -111,7 +113,7 @@ fn search(
         tally = t;
         f = s.f;
         let i = s.e as usize - 1;
-        v = after[i];
+        v = s.next;
         after[i] = 0;
     }
     tally
