@@ -7,22 +7,22 @@ use mathlib.Core.Bool.{Bool, true, false, not, _&&_, cond}
 use mathlib.Core.List.{List, [], _∷_, _++_, append-assoc, append-nil}
 use Prim.Native.Nat.{ℕ, zero, suc, _+_, _-_, _*_, _≤_}
 use native.Mathlib.Omega.{arith}
-use lib.Dec.{eqb, ltb, leb}
+use lib.Dec.{leb}
 use lib.ListN.{length, length-append}
-use borrow.Author.Tests.{ltb-false, leb-true, not-false}
+use borrow.Author.Tests.{leb-true}
 use Rattle.lists.specs.Words.{overlay, pasted}
-use Rattle.lists.proofs.Tests.{clash, neither}
+use Rattle.lists.proofs.Tests.{clash}
 use Rattle.lists.proofs.Words.{pasted-front, pasted-pasted}
 use Rattle.graphs.proofs.Nodes.{vertex-is, link-not-null, link-node}
 use Rattle.graphs.specs.Events.{Event, words}
 use Rattle.graphs.proofs.Room.{words-length}
-use Rattle.graphs.specs.Refusals.{refuse, firstOf, Lent, lent, short, vertexOut, sizeRefusals}
-use Rattle.graphs.proofs.Refusals.{all-false, long}
+use Rattle.graphs.specs.Refusals.{refuse, firstOf, Lent, lent, short}
 use Rattle.walks.proofs.Numbers.{more-lent, own-test}
 use Rattle.walks.proofs.Events.{words-append}
 use Rattle.folding.specs.Machine.{Config, stepOf, fits, canStep, step}
-use Rattle.folding.specs.Calls.{ended, spent, stuck, ran, taken, refusing, over, fieldsIn, stateNumber, workAreas, runNumber, stepRefusals, stepNumber, Run, stop, onward, run, runFor, single, perform, serve}
-use Rattle.folding.proofs.Fields.{Fields, fields-are}
+use Rattle.folding.specs.Calls.{ended, spent, stuck, ran, taken, refusing, over, stateNumber, workAreas, runNumber, stepRefusals, stepNumber, Run, stop, onward, run, runFor, single, perform, serve}
+use Rattle.folding.proofs.Fields.{Fields}
+use Rattle.folding.proofs.Passed.{passed, lengths}
 use Rattle.folding.proofs.Confined.{Kept, step-kept}
 use Rattle.states.specs.declared.values.State.{State}
 use Rattle.states.specs.declared.values.Reply.{Reply}
@@ -75,13 +75,9 @@ pub record Taken (s : State) (after tail marks : List ℕ) (k : ℕ) (area : Lis
 pub not-refused : (s : State) (after tail marks : List ℕ) (k : ℕ) (area : List ℕ) → 0 ≡ stateNumber (configOf s after tail marks) (workAreas (configOf s after tail marks) k area) [] → Taken s after tail marks k area
 not-refused s after tail marks k area h =
     let w = configOf s after tail marks in
-    let A = all-false (sizeRefusals (w .n) (w .m) (workAreas w k area) ++ refuse 4 (vertexOut (w .n) (w .start)) ∷ refuse 8 (not (fieldsIn w)) ∷ []) [] (omega arith) (sym h) .0 in
-    let K : Fields w = fields-are w (not-false (fieldsIn w) (A .1 .1 .1 .1 .0)) in
-    let a = long (w .n + w .m) after (lent (w .m) tail ∷ lent (w .n + w .m) marks ∷ lent k area ∷ []) (A .1 .1 .0) in
-    let b = long (w .m) tail (lent (w .n + w .m) marks ∷ lent k area ∷ []) (a .1) in
-    let c = long (w .n + w .m) marks (lent k area ∷ []) (b .1) in
-    let n = ltb-false 1000 (w .n) (neither (eqb (w .n) 0) (ltb 1000 (w .n)) (A .0) .1) in
-    record { fields = K; ready = ready-of s after tail marks K n (ltb-false 4000 (w .m) (A .1 .0)) (a .0) (b .0) (c .0); room = long k area [] (c .1) .0 }
+    let P = passed w (workAreas w k area) [] (sym h) in
+    let L = lengths w k area (P .areas-long) in
+    record { fields = P .fields; ready = ready-of s after tail marks (P .fields) (P .few-vertices) (P .few-edges) (L .after-long) (L .tail-long) (L .marks-long); room = L .area-long }
 
 -- ---- a step tried
 module _ {x : Attempt} (w : Config) (k : ℕ) (area : List ℕ) (e : x ≡ trying w (stepOf w) k area) where

@@ -1,9 +1,9 @@
 -- Demand 1 of the folded search, on any input; the claims on single steps and on the run's tests.
--- A call that is not refused has long areas and fields in kind, and then stays within its areas.
+-- A call that is not refused stays within its areas.
 use mathlib.Core.Path.{_≡_, refl, sym, ap, _∙_, subst}
 use mathlib.Core.Logic.{_≢_}
-use mathlib.Core.Bool.{Bool, true, false, not, _&&_}
-use mathlib.Core.List.{List, [], _∷_, _++_}
+use mathlib.Core.Bool.{Bool, true, not, _&&_}
+use mathlib.Core.List.{List, [], _∷_}
 use Prim.Native.Nat.{ℕ, zero, suc, _+_, _*_, _≤_}
 use native.Mathlib.Omega.{arith}
 use lib.ListN.{length, drop}
@@ -12,15 +12,15 @@ use Rattle.lists.specs.Words.{overlay, cleared}
 use Rattle.lists.proofs.Words.{length-put, length-cleared, put-past, cleared-past}
 use Rattle.graphs.specs.Events.{Event, event, label, words}
 use Rattle.graphs.specs.Image.{Image}
-use Rattle.graphs.specs.Refusals.{Refusal, refuse, firstOf, Lent, lent, short, vertexOut, sizeRefusals}
+use Rattle.graphs.specs.Refusals.{firstOf, lent}
 use Rattle.graphs.proofs.Refusals.{all-false, long}
 use Rattle.graphs.proofs.Sound.{profile-sound}
 use Rattle.graphs.proofs.Room.{words-length}
 use Rattle.folding.specs.Machine.{Config, rollingBack, canStep, step}
-use Rattle.folding.specs.Calls.{Reason, Answer, ran, taken, refused, Reply, refusing, unless, fieldsIn, stateNumber, workAreas, runNumber, stepRefusals, stepNumber, inPhase, run, Call, runFor, single, rollBack, areaOf, numberOf, perform, serve, unopened, openNumber, openedAt, openReply, opening}
+use Rattle.folding.specs.Calls.{Reason, Answer, ran, taken, refused, Reply, refusing, unless, workAreas, runNumber, stepRefusals, stepNumber, inPhase, run, Call, runFor, single, rollBack, areaOf, numberOf, perform, serve, unopened, openNumber, openedAt, openReply, opening}
 use Rattle.folding.specs.Lines.{folded}
 use Rattle.folding.specs.Claims.{Judged, Within, Confined, Demand1, StepClaim, Tested, toldRun, RunClaim}
-use Rattle.folding.proofs.Fields.{Fields, fields-are}
+use Rattle.folding.proofs.Passed.{passed, lengths}
 use Rattle.folding.proofs.Confined.{within-refl, Kept, step-kept, RunKept, run-kept}
 use Rattle.folding.proofs.Runs.{run-stops}
 
@@ -48,29 +48,6 @@ confined w area a made es x W h = record { links = W; fits = h; told = refl }
 -- Nothing changed.
 still : (w : Config) (area : List ℕ) (k : ℕ) → Confined w area (refusing k w area)
 still w area k = confined w area (refused k) 0 [] w (within-refl w) (omega arith)
-
--- What a call that is not refused has passed: its areas are long, its fields in kind, and its own conditions are false.
-record Passed (w : Config) (areas : List Lent) (own : List Refusal) : Type 0 where
-  areas-long : short areas ≡ false
-  fields : Fields w
-  own-false : firstOf own ≡ 0
-
-passed : (w : Config) (areas : List Lent) (own : List Refusal) → stateNumber w areas own ≡ 0 → Passed w areas own
-passed w areas own h =
-    let a = all-false (sizeRefusals (w .n) (w .m) areas ++ refuse 4 (vertexOut (w .n) (w .start)) ∷ refuse 8 (not (fieldsIn w)) ∷ []) own (omega arith) h in
-    record { areas-long = a .0 .1 .1 .0; fields = fields-are w (not-false (fieldsIn w) (a .0 .1 .1 .1 .1 .0)); own-false = a .1 }
-
--- The mark area and the event area are long enough.
-record Lengths (w : Config) (k : ℕ) (area : List ℕ) : Type 0 where
-  marks-long : w .n + w .m ≤ length (w .marks)
-  area-long : k ≤ length area
-
-lengths : (w : Config) (k : ℕ) (area : List ℕ) → short (workAreas w k area) ≡ false → Lengths w k area
-lengths w k area h =
-    let a = long (w .n + w .m) (w .after) (lent (w .m) (w .tail) ∷ lent (w .n + w .m) (w .marks) ∷ lent k area ∷ []) h in
-    let b = long (w .m) (w .tail) (lent (w .n + w .m) (w .marks) ∷ lent k area ∷ []) (a .1) in
-    let c = long (w .n + w .m) (w .marks) (lent k area ∷ []) (b .1) in
-    record { marks-long = c .0; area-long = long k area [] (c .1) .0 }
 
 run-confined : (w : Config) (k : ℕ) (area : List ℕ) → runNumber w k area ≡ 0 → Confined w area (perform w (runFor k area))
 unfolding runNumber

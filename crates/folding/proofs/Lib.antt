@@ -1,6 +1,7 @@
 -- On any input: the run's tests, the state fields, the areas, demand 1.
 pub mod Runs
 pub mod Fields
+pub mod Passed
 pub mod Confined
 pub mod AnyInput
 -- On a sound profile: places, steps between them, the invariant, demands 2 and 3.

@@ -2,18 +2,18 @@
 -- Once those five are false the phase is 1 to 6, and the three of accepting decide.
 use mathlib.Core.Path.{_≡_, refl, sym, ap, _∙_}
 use mathlib.Core.Logic.{_≢_}
-use mathlib.Core.Bool.{true, not, _||_}
-use mathlib.Core.List.{List, [], _∷_, _++_}
+use mathlib.Core.Bool.{true, _||_}
+use mathlib.Core.List.{List, [], _∷_}
 use Prim.Native.Nat.{ℕ, zero, suc, _+_, _≤_, _<_}
 use native.Mathlib.Omega.{arith}
 use lib.Dec.{eqb, ltb, leb}
-use borrow.Author.Tests.{eq-eqb, ne-eqb, le-leb, lt-leb, ltb-true, leb-true, leb-false, not-false}
+use borrow.Author.Tests.{eq-eqb, ne-eqb, le-leb, lt-leb, ltb-true, leb-true, leb-false}
 use Rattle.lists.proofs.Tests.{both}
-use Rattle.graphs.specs.Refusals.{Refusal, refuse, firstOf, vertexOut, figureOut, sizeRefusals}
+use Rattle.graphs.specs.Refusals.{Refusal, refuse, firstOf, figureOut}
 use Rattle.graphs.proofs.Refusals.{all-false}
 use Rattle.folding.specs.Machine.{Config}
-use Rattle.folding.specs.Calls.{fieldsIn, stateNumber, acceptNumber}
-use Rattle.folding.proofs.Fields.{fields-are}
+use Rattle.folding.specs.Calls.{stateNumber, acceptNumber}
+use Rattle.folding.proofs.Passed.{passed}
 use Rattle.states.specs.declared.values.State.{State}
 use Rattle.states.specs.Answers.{configOf}
 use Rattle.states.proofs.Numbers.{number-first, number-own}
@@ -23,10 +23,6 @@ use Rattle.panel.specs.Panel.{countedBy, acceptedOf, asAccepted}
 -- The three conditions of accepting, by phase and figure.
 abbrev conditions : ℕ → ℕ → List Refusal
 conditions p figure = refuse 9 (eqb p 5 || eqb p 6) ∷ refuse 10 (eqb p 1 || (eqb p 2 || eqb p 4)) ∷ refuse 11 (figureOut figure) ∷ []
-
--- The first five.
-abbrev common : Config → List Refusal
-common w = sizeRefusals (w .n) (w .m) [] ++ refuse 4 (vertexOut (w .n) (w .start)) ∷ refuse 8 (not (fieldsIn w)) ∷ []
 
 -- ---- the three, one by one
 -- 9 in phase 5, and in phase 6.
@@ -72,8 +68,7 @@ module _ (w : Config) (figure : ℕ) {k : ℕ} (e : k ≡ stateNumber w [] []) w
   -- The phase is 1 to 6.
   phase-in : k ≡ 0 → (0 < w .phase) × (w .phase ≤ 6)
   phase-in z =
-      let a = all-false (common w) [] (omega arith) (sym e ∙ z) in
-      let b = both (ltb 0 (w .phase)) (leb (w .phase) 6) (fields-are w (not-false (fieldsIn w) (a .0 .1 .1 .1 .1 .0)) .phase-in) in
+      let b = both (ltb 0 (w .phase)) (leb (w .phase) 6) (passed w [] [] (sym e ∙ z) .fields .phase-in) in
       (ltb-true 0 (w .phase) (b .0), leb-true (w .phase) 6 (b .1))
 
   -- Phase 5; phase 6.
@@ -98,8 +93,8 @@ module _ (w : Config) (figure : ℕ) {k : ℕ} (e : k ≡ stateNumber w [] []) w
 pub figure-below : (w : Config) (figure : ℕ) → acceptNumber w figure ≡ 0 → figure < 999999
 unfolding acceptNumber
 figure-below w figure h =
-    let a = all-false (common w ++ conditions (w .phase) figure) [] (omega arith) h in
-    leb-false 999999 figure (a .0 .1 .1 .1 .1 .1 .1 .1 .0)
+    let a = all-false (conditions (w .phase) figure) [] (omega arith) (passed w [] (conditions (w .phase) figure) h .own-false) in
+    leb-false 999999 figure (a .0 .1 .1 .0)
 
 -- ---- what is left
 -- Refused: neither record nor state changes.
