@@ -8,7 +8,7 @@ use native.Mathlib.Omega.{arith}
 use lib.ListN.{length, getD, set, length-append, length-map}
 use borrow.Author.Tests.{le-ltb}
 use Rattle.lists.specs.Members.{Mem, here, there}
-use Rattle.lists.specs.Words.{at, overlay, pasted, valuesFrom}
+use Rattle.lists.specs.Words.{overlay, pasted, valuesFrom}
 use Rattle.lists.proofs.Words.{read-past, length-values, values-append, pasted-front, pasted-none, pasted-next, pasted-pasted, length-pasted, read-at}
 use Rattle.graphs.specs.Nodes.{Edge}
 use Rattle.graphs.specs.Image.{Image, edgesOf, to, listsTo}

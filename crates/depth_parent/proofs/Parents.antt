@@ -15,7 +15,7 @@ use Rattle.lists.proofs.Members.{memb-false}
 use Rattle.lists.proofs.Words.{but, put-filled, values-same, at-filled, length-filled, cleared-filled, read-at}
 use Rattle.graphs.specs.Nodes.{Vertex, Edge}
 use Rattle.graphs.specs.Graph.{Graph}
-use Rattle.graphs.specs.Events.{event, label, advance-tree, advance-nontree, retreat-tree, retreat-nontree, scan, code, same, History, _▸_, labelled}
+use Rattle.graphs.specs.Events.{event, label, advance-tree, advance-nontree, retreat-tree, retreat-nontree, scan, same, History, _▸_, labelled}
 use Rattle.graphs.specs.Image.{Image, edgesOf, to, graphOf}
 use Rattle.graphs.specs.Results.{lastTree, entry, parentWord, parentLeft}
 use Rattle.graphs.specs.Claims.{Ready}

@@ -131,10 +131,3 @@ module _ (G : Graph) (start : ℕ) where
   -- While an edge is ahead, its events and a scan are still to come.
   pub queue-room-edge : {h : History} {v r : ℕ} {rest q : List ℕ} → Scanning G start h v (r ∷ rest) q → memb (G .to r) (labelled h) ≡ false → suc (suc (suc (length h))) ≤ length (breadthFirst G [] start)
   queue-room-edge S e = queue-room (queue-join S e)
-
-  pub queue-room-pass : {h : History} {v r : ℕ} {rest q : List ℕ} → Scanning G start h v (r ∷ rest) q → suc (suc (length h)) ≤ length (breadthFirst G [] start)
-  queue-room-pass {h} {v} {r} {rest} {q} S = go (memb (G .to r) (labelled h)) refl
-    where
-      go : (b : Bool) → memb (G .to r) (labelled h) ≡ b → suc (suc (length h)) ≤ length (breadthFirst G [] start)
-      go true e = queue-room (queue-pass S e)
-      go false e = let k = queue-room-edge S e in omega arith

@@ -13,7 +13,7 @@ use borrow.Author.Tests.{eqb-true, eq-eqb, ne-eqb}
 use Rattle.lists.specs.Members.{Mem, here, there, NoDup}
 use Rattle.lists.specs.Counts.{allTo}
 use Rattle.lists.specs.Words.{at, put}
-use Rattle.lists.proofs.Tests.{clash, and-true, Compared, equal, other, compare}
+use Rattle.lists.proofs.Tests.{clash, Compared, equal, other, compare}
 use Rattle.lists.proofs.Members.{mem-nil, each-cons, mem-one, mem-append, nodup-left, pigeonhole}
 use Rattle.lists.proofs.Counts.{all-fails, count-once, count-all}
 use Rattle.lists.proofs.Words.{word-here, length-put, at-put, at-other}

@@ -203,9 +203,6 @@ length-written x h = rw (length-digits (decimalLength x) x) (go (long x h))
     go (one p) = omega arith
     go (more k p q) = omega (arith, order (suc k) 5 x p (omega arith))
 
-pub written-some : (x : ℕ) → x ≤ 65535 → written x ≡ [] → ⊥
-written-some x h e = let n = length-written x h in let z : length (written x) ≡ 0 = ap length e in omega arith
-
 -- ---- a number read
 -- What is known of a number found.
 record Read (text : List ℕ) (at : ℕ) (f : Field) : Type 0 where

@@ -1,19 +1,18 @@
 -- What is printed is in the output area, whatever the text and the areas.
-use mathlib.Core.Path.{_≡_, refl, sym, ap, _∙_}
+use mathlib.Core.Path.{_≡_, refl, ap}
 use mathlib.Core.Bool.{Bool, true, false, cond}
 use mathlib.Core.List.{List}
 use Prim.Native.Nat.{ℕ, _+_, _≤_}
 use native.Mathlib.Omega.{arith}
 use lib.ListN.{length, drop, length-append}
 use borrow.Author.Tests.{leb-true}
-use Rattle.lists.specs.Words.{overlay}
 use Rattle.lists.proofs.Words.{length-pasted}
 use Rattle.numbers.specs.Decimal.{room, putAt, pastAt}
 use Rattle.texts.specs.Loading.{Reading, refused, loaded}
 use Rattle.report.specs.declared.text.Report.{Report}
 use Rattle.report.specs.Printed.{walkPrinted, refusalPrinted}
 use Rattle.report.specs.Report.{Told, graphFrom, lentAreas, walkReading, reported, reportOf, told}
-use Rattle.report.proofs.Rows.{printed-room, printed-none}
+use Rattle.report.proofs.Rows.{printed-room}
 
 -- Bytes put into an area are in it.
 past-fits : (bytes area : List ℕ) → pastAt bytes 0 area ≤ length (putAt bytes 0 area)

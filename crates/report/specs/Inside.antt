@@ -1,7 +1,7 @@
 -- What the walk and its printing ask of each other.
 use mathlib.Core.Path.{_≡_}
 use mathlib.Core.List.{List, [], _∷_, _++_}
-use Prim.Native.Nat.{ℕ, _+_, _*_, _≤_}
+use Prim.Native.Nat.{ℕ, _*_, _≤_}
 use lib.ListN.{length, take}
 use Rattle.graphs.specs.Events.{labelled}
 use Rattle.graphs.specs.Image.{Image, graphOf}

@@ -3,7 +3,7 @@ use mathlib.Core.Path.{sym, ap, _∙_}
 use mathlib.Core.List.{List, [], _++_}
 use Prim.Native.Nat.{ℕ, _+_}
 use native.Mathlib.Omega.{arith}
-use Rattle.graphs.specs.Events.{History, words}
+use Rattle.graphs.specs.Events.{History}
 use Rattle.graphs.specs.Results.{eventsLeft}
 use Rattle.graphs.specs.Image.{graphOf}
 use Rattle.graphs.specs.ArrayForm.{ArrayForm, arrayGraph, arrayLeft}

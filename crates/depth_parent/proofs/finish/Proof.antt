@@ -1,6 +1,5 @@
 -- The search goes back and on until the start has no edge left.
 -- Each turn goes from place to place and emits two events or more, of at most 10,000.
-use mathlib.Core.Path.{_≡_}
 use Prim.Native.Nat.{_-_}
 use native.Mathlib.Omega.{arith}
 use Rattle.images.specs.Checking.{image}

@@ -1,9 +1,7 @@
 -- Going on until only the start is left, and no edge is ahead of it.
 -- The loop keeps the place. Each turn counts two events more at least, and the search has at most 10,000.
-use mathlib.Core.Path.{_≡_}
-use Prim.Native.Nat.{suc, _-_}
+use Prim.Native.Nat.{_-_}
 use native.Mathlib.Omega.{arith}
-use Rattle.lists.specs.Words.{at}
 use Rattle.depth_array.proofs.Increments.{back, Onward, some-onward, kept}
 use Rattle.depth_array.proofs.array.finish.Statement.{statement}
 use Rattle.depth_array.proofs.array.finish.Tie as tie

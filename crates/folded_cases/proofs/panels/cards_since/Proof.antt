@@ -1,6 +1,6 @@
 -- `cards_since` is safe and ends: the places left fall with each turn.
 use borrow.Author.Needs.{needs}
-use Prim.Native.Nat.{_≤_, _-_}
+use Prim.Native.Nat.{_≤_}
 use Rattle.folded_cases.proofs.panels.cards_since.Statement.{statement}
 use Rattle.folded_cases.proofs.panels.cards_since.Tie as tie
 

@@ -1,6 +1,5 @@
 -- The tests of room, one after the other.
 use mathlib.Core.Path.{_∙_}
-use Prim.Native.Nat.{_/_, min}
 use native.Mathlib.Omega.{arith}
 use lib.Dec.{ltb}
 use Rattle.walks.proofs.Storing.{no-room-kind, room-asks}
