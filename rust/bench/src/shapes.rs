@@ -76,9 +76,15 @@ fn sparse_by(n: usize, m: usize, seed: u64) -> Profile {
     Profile::new("sparse", n as u16, &lines)
 }
 
-/// Sixteen profiles by chance. A call meets them in turn, so that no processor learns one of them by heart.
+/// Elements and references of all profiles by chance that take turns, whatever the size of each.
+const IN_TURN: usize = 80_000;
+
+/// Profiles by chance: sixteen at the limits, more where they are smaller. A call meets them in turn, so that no processor
+/// learns them by heart, and small ones no sooner than large ones.
 pub fn sparse(n: usize, m: usize) -> Vec<Profile> {
-    (0..16).map(|seed| sparse_by(n, m, seed)).collect()
+    (0..IN_TURN / (n + m))
+        .map(|seed| sparse_by(n, m, seed as u64))
+        .collect()
 }
 
 /// A core whose elements all refer to each other; the others hang on it.
