@@ -66,7 +66,7 @@ fn take_number(text: &[u8], at: usize) -> u64 {
     if past <= at {
         return 0;
     }
-    if 1 < past - at && get_byte(text, at) == 48 {
+    if 5 < past - at {
         return 0;
     }
     let value = value_of(text, at, past);

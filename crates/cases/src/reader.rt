@@ -25,7 +25,7 @@ const TO: usize = 6;
 // The state; out of form it is 7.
 const STATE: usize = 0;
 
-// In a line of names, how many of its bytes were read; in a number, what its digits are worth, and 99,999 before the first.
+// In a line of names, how many of its bytes were read; in a number, what its digits are worth, and 100,000 for each of them.
 const VALUE: usize = 4;
 
 // How many lines were read, how many of them were kept, and how many have a from or a to that is no vertex.
@@ -35,7 +35,10 @@ const KEPT: usize = 8;
 
 const STRAY: usize = 9;
 
-const NO_DIGIT: u64 = 99999;
+const NO_DIGIT: u64 = 0;
+
+// More than any number in form.
+const NO_NUMBER: u64 = 1000000;
 
 fn moved(r: &mut Reader, state: u64, value: u64) {
     r[STATE] = state;
@@ -65,22 +68,20 @@ fn feed_name(r: &mut Reader, b: u8) {
     moved(r, state, i % 64 + 1);
 }
 
-// What digits are worth with one more; more than 65,535 where that is not in form.
+// The digits with one more; a sixth, or a worth of more than 65,535, is not in form.
 fn worth(value: u64, digit: u8) -> u64 {
-    if value == NO_DIGIT {
-        return digit as u64;
+    let now = value % 100000 * 10 + digit as u64;
+    if 65535 < now {
+        return NO_NUMBER;
     }
-    if value == 0 {
-        return 65536;
-    }
-    value % 65536 * 10 + digit as u64
+    value / 100000 % 8 * 100000 + 100000 + now
 }
 
 // A digit of a number.
 fn feed_digit(r: &mut Reader, digit: u8) {
     let state = r[STATE];
     let value = worth(r[VALUE], digit);
-    moved(r, if value < 65536 { state } else { 7 }, value);
+    moved(r, if value < 600000 { state } else { 7 }, value);
 }
 
 // Whether a byte may stand behind the number of a state.
@@ -99,7 +100,7 @@ fn follows(state: u64) -> u64 {
 // The number of a state is read: it goes into its register, and after a to a line is read.
 fn keep(r: &mut Reader, state: u64, value: u64) {
     let lines = r[LINES] % 1000000;
-    r[state as usize % 7] = value;
+    r[state as usize % 7] = value % 100000;
     r[LINES] = if state == 6 { lines + 1 } else { lines };
 }
 

@@ -64,6 +64,15 @@ fn spoilt(kind: u16, place: usize, other: u8) -> Row {
     r
 }
 
+// A text of n vertices and no edge, with a zero in front of n.
+fn padded(n: u64, number: u16) -> Row {
+    let mut r = values(n, 0, 1, 0, number);
+    r.kind = 2;
+    r.place = 26;
+    r.other = b'0';
+    r
+}
+
 // The same text with a value in place of its from or its to.
 fn with_value(from_at: usize, to_at: usize, value: u64, number: u16) -> Row {
     let mut r = values(1, 1, 1, 1, number);
@@ -106,7 +115,7 @@ fn row_of_values(i: usize) -> Row {
     }
 }
 
-// from;to and 1;1; other names; line feeds and commas missing, doubled or behind a carriage return; leading zeros; signs and
+// from;to and 1;1; other names; line feeds and commas missing, doubled or behind a carriage return; a leading zero, which makes five digits or six; signs and
 // spaces; numbers without digits; texts cut off.
 fn row_of_damage(i: usize) -> Row {
     match i {
@@ -118,8 +127,8 @@ fn row_of_damage(i: usize) -> Row {
         24 => spoilt(2, 43, b'\r'),
         25 => spoilt(2, 25, b'\r'),
         26 => spoilt(3, 27, 0),
-        27 => spoilt(2, 26, b'0'),
-        28 => spoilt(2, 40, b'0'),
+        27 => padded(1000, 0),
+        28 => padded(65535, 12),
         29 => spoilt(2, 26, b'+'),
         30 => spoilt(2, 30, b'-'),
         31 => spoilt(2, 30, b' '),

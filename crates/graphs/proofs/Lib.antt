@@ -9,6 +9,7 @@ pub mod Follow
 pub mod DepthGrowth
 pub mod DepthCounts
 pub mod Depth
+pub mod Named
 pub mod Results
 pub mod Places
 pub mod Tails

@@ -1,2 +1,4 @@
 pub mod Numbers
+pub mod Padding
+pub mod Examples
 pub mod NumberLoops

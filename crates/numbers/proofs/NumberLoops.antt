@@ -1,20 +1,19 @@
 -- What the loops of the numbers' code keep: the limits passed, the value read so far, the digits put so far.
 -- Each loop's step takes one limit or one digit, as the recursion of its definition does.
 use mathlib.Core.Path.{_≡_, refl, sym, ap, _∙_, subst}
-use mathlib.Core.Bool.{Bool, true, false, cond, not, _&&_, and-false}
+use mathlib.Core.Bool.{Bool, true, false, cond, _&&_, and-false}
 use mathlib.Core.List.{List, [], _∷_, _++_, append-nil}
 use mathlib.Core.Option.{Option, none, some}
 use Prim.Native.Nat.{ℕ, suc, _+_, _-_, _*_, _/_, _%_, _≤_, _<_}
 use native.Mathlib.Numerals.{add-one}
 use native.Mathlib.Omega.{arith}
-use lib.Dec.{eqb, leb}
+use lib.Dec.{leb}
 use lib.ListN.{length, drop, getD, set, drop-of-length-le}
 use lib.Seq.{append-snoc, drop-cons}
-use borrow.Author.Tests.{lt-ltb, le-ltb, le-leb, lt-leb, eq-eqb, ne-eqb}
+use borrow.Author.Tests.{lt-ltb, le-ltb, le-leb, lt-leb, leb-true, leb-false}
 use Rattle.lists.specs.Words.{pasted}
-use Rattle.lists.proofs.Tests.{zero-test, Compared, equal, other, compare}
 use Rattle.lists.proofs.Words.{pasted-none, pasted-before}
-use Rattle.numbers.specs.Decimal.{limits, passed, decimalLength, digits, written, putAt, pastAt, isDigit, digitsAhead, valueAfter, unpadded, Field, fieldOf, numberAt}
+use Rattle.numbers.specs.Decimal.{limits, passed, decimalLength, digits, written, putAt, pastAt, isDigit, digitsAhead, valueAfter, few, Field, fieldOf, numberAt}
 use Rattle.numbers.proofs.Numbers.{digit-tested, length-digits, value-grows}
 
 -- ---- the length by the table
@@ -54,32 +53,22 @@ module _ (text : List ℕ) (i : ℕ) where
   ahead-one : i < length text → isDigit (getD text i 0) ≡ true → digitsAhead (drop i text) ≡ getD text i 0 ∷ digitsAhead (drop (i + 1) text)
   ahead-one h t = rw (add-one i, drop-cons text i 0 h, t)
 
--- Digits may stand behind the value v: there are none, or v is no leading zero.
-abbrev follow : ℕ → List ℕ → Bool
-follow v [] = true
-follow v (d ∷ ds) = not (eqb v 0)
-
--- The number of value v up to place i, with these digits behind it.
-abbrev onward : ℕ → ℕ → List ℕ → Option Field
-onward v i ds = cond (follow v ds && leb (valueAfter v ds) 65535) (some (record { value = valueAfter v ds; next = i + length ds })) none
-
-follow-more : (v : ℕ) (ds : List ℕ) → 0 < v → follow v ds ≡ true
-follow-more v [] h = refl
-follow-more v (d ∷ ds) h = ap not (zero-test v h)
-
--- Digits behind a first digit are in form if they may stand behind its value.
-follow-first : (d : ℕ) (ds : List ℕ) → 48 ≤ d → unpadded (d ∷ ds) ≡ follow (d - 48) ds
-follow-first d [] h = refl
-follow-first d (e ∷ ds) h = ap not (go (compare d 48))
+-- A digit and those behind it are five at most if they end within five digits of its place.
+few-from : (at d : ℕ) (ds : List ℕ) → few (d ∷ ds) ≡ leb (at + 1 + length ds) (at + 5)
+few-from at d ds = rw (lt-ltb 0 (suc (length ds)) (omega arith)) (go (leb (suc (length ds)) 5) refl)
   where
-    go : Compared d 48 → eqb d 48 ≡ eqb (d - 48) 0
-    go (equal q t) = t ∙ sym (eq-eqb (d - 48) 0 (omega arith))
-    go (other q t) = t ∙ sym (zero-test (d - 48) (omega arith))
+    go : (t : Bool) → leb (suc (length ds)) 5 ≡ t → t ≡ leb (at + 1 + length ds) (at + 5)
+    go true e = let h = leb-true (suc (length ds)) 5 e in sym (le-leb (at + 1 + length ds) (at + 5) (omega arith))
+    go false e = let h = leb-false (suc (length ds)) 5 e in sym (lt-leb (at + 1 + length ds) (at + 5) (omega arith))
+
+-- The number of value v up to place i, with these digits behind it, if they end within five digits of place `at`.
+abbrev onward : ℕ → ℕ → ℕ → List ℕ → Option Field
+onward at v i ds = cond (leb (i + length ds) (at + 5) && leb (valueAfter v ds) 65535) (some (record { value = valueAfter v ds; next = i + length ds })) none
 
 module _ (text : List ℕ) (at : ℕ) where
   -- The digits from place `at` to place i have the value v, and those from i on are still to be read.
   abbrev pub Reading : ℕ → ℕ → Type 0
-  Reading v i = numberAt text at ≡ onward v i (digitsAhead (drop i text))
+  Reading v i = numberAt text at ≡ onward at v i (digitsAhead (drop i text))
 
   none-ahead : digitsAhead (drop at text) ≡ [] → numberAt text at ≡ none
   unfolding numberAt
@@ -99,39 +88,41 @@ module _ (text : List ℕ) (at : ℕ) where
       let v : 0 * 10 + (d - 48) ≡ d - 48 = omega arith in
       let n : at + suc (length rest) ≡ at + 1 + length rest = omega arith in
       ap (λ (ds : List ℕ). fieldOf ds at) (ahead-one text at h t)
-      ∙ (λ i. cond (follow-first d rest (digit-tested d t .low) i && leb (valueAfter (v i) rest) 65535) (some (record { value = valueAfter (v i) rest; next = n i })) none)
+      ∙ (λ i. cond (few-from at d rest i && leb (valueAfter (v i) rest) 65535) (some (record { value = valueAfter (v i) rest; next = n i })) none)
 
   module _ (v i : ℕ) (r : Reading v i) where
-    done : v ≤ 65535 → digitsAhead (drop i text) ≡ [] → numberAt text at ≡ some (record { value = v; next = i })
-    done f e = let n : i + 0 ≡ i = omega arith in r ∙ ap (onward v i) e ∙ rw (le-leb v 65535 f, n)
+    done : v ≤ 65535 → i ≤ at + 5 → digitsAhead (drop i text) ≡ [] → numberAt text at ≡ some (record { value = v; next = i })
+    done f l e = let n : i + 0 ≡ i = omega arith in r ∙ ap (onward at v i) e ∙ rw (n, le-leb v 65535 f, le-leb i (at + 5) l)
 
-    pub reading-end : v ≤ 65535 → length text ≤ i → numberAt text at ≡ some (record { value = v; next = i })
-    reading-end f h = done f (ahead-end text i h)
+    pub reading-end : v ≤ 65535 → i ≤ at + 5 → length text ≤ i → numberAt text at ≡ some (record { value = v; next = i })
+    reading-end f l h = done f l (ahead-end text i h)
 
     module _ (h : i < length text) where
-      pub reading-stop : v ≤ 65535 → isDigit (getD text i 0) ≡ false → numberAt text at ≡ some (record { value = v; next = i })
-      reading-stop f t = done f (ahead-none text i h t)
+      pub reading-stop : v ≤ 65535 → i ≤ at + 5 → isDigit (getD text i 0) ≡ false → numberAt text at ≡ some (record { value = v; next = i })
+      reading-stop f l t = done f l (ahead-none text i h t)
 
-      -- A digit behind a leading zero.
-      pub reading-zero : isDigit (getD text i 0) ≡ true → v ≡ 0 → numberAt text at ≡ none
-      reading-zero t z = r ∙ ap (onward v i) (ahead-one text i h t) ∙ rw (eq-eqb v 0 z)
+      -- A sixth digit.
+      pub reading-six : isDigit (getD text i 0) ≡ true → at + 5 ≤ i → numberAt text at ≡ none
+      reading-six t q =
+          let rest = digitsAhead (drop (i + 1) text) in
+          let long : leb (i + suc (length rest)) (at + 5) ≡ false = lt-leb (i + suc (length rest)) (at + 5) (omega arith) in
+          r ∙ ap (onward at v i) (ahead-one text i h t) ∙ rw long
 
       pub reading-over : isDigit (getD text i 0) ≡ true → 65535 < v * 10 + (getD text i 0 - 48) → numberAt text at ≡ none
       reading-over t q =
           let w = v * 10 + (getD text i 0 - 48) in
           let rest = digitsAhead (drop (i + 1) text) in
           let over : leb (valueAfter w rest) 65535 ≡ false = lt-leb (valueAfter w rest) 65535 (omega (arith, value-grows w rest)) in
-          r ∙ ap (onward v i) (ahead-one text i h t) ∙ rw (over, and-false (not (eqb v 0)))
+          r ∙ ap (onward at v i) (ahead-one text i h t) ∙ rw (over, and-false (leb (i + suc (length rest)) (at + 5)))
 
-      pub reading-next : isDigit (getD text i 0) ≡ true → (v ≡ 0 → ⊥) → Reading (v * 10 + (getD text i 0 - 48)) (i + 1)
-      reading-next t z =
+      pub reading-next : isDigit (getD text i 0) ≡ true → Reading (v * 10 + (getD text i 0 - 48)) (i + 1)
+      reading-next t =
           let w = v * 10 + (getD text i 0 - 48) in
           let rest = digitsAhead (drop (i + 1) text) in
-          let form : not (eqb v 0) ≡ follow w rest = ap not (ne-eqb v 0 z) ∙ sym (follow-more w rest (omega arith)) in
           let n : i + suc (length rest) ≡ i + 1 + length rest = omega arith in
           r
-          ∙ ap (onward v i) (ahead-one text i h t)
-          ∙ (λ j. cond (form j && leb (valueAfter w rest) 65535) (some (record { value = valueAfter w rest; next = n j })) none)
+          ∙ ap (onward at v i) (ahead-one text i h t)
+          ∙ (λ j. cond (leb (n j) (at + 5) && leb (valueAfter w rest) 65535) (some (record { value = valueAfter w rest; next = n j })) none)
 
 -- ---- a number put into an area
 -- The last of the k digits of x stand in the area from place at + i on; `rest` has the first i.

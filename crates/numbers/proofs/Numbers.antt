@@ -1,19 +1,20 @@
--- A number written is read back, and what is read is written again.
+-- A number written is read back, behind zeros too, and what is read is written again behind its zeros.
 -- By the digits' recursion: writing takes the last digit off, reading puts it on. A number's length is told by the powers of ten around it.
 use mathlib.Core.Path.{_≡_, refl, sym, ap, _∙_, subst}
-use mathlib.Core.Bool.{Bool, true, false, cond, not}
+use mathlib.Core.Bool.{Bool, true, false, cond, not, and-false}
 use mathlib.Core.List.{List, [], _∷_, _++_, append-assoc, append-nil}
 use mathlib.Core.Option.{none, some}
 use Prim.Native.Nat.{ℕ, zero, suc, _+_, _-_, _*_, _/_, _%_, _^_, _≤_, _<_}
 use native.Mathlib.Omega.{arith}
 use native.Mathlib.Nat.{pow-succ', pow-le-pow-right}
 use lib.Dec.{eqb, ltb, leb}
-use lib.ListN.{length, drop, length-append}
+use lib.ListN.{length, drop, replicate, length-append, length-replicate}
 use lib.Seq.{append-snoc, drop-drop, drop-append-seam}
-use borrow.Author.Tests.{ltb-true, ltb-false, leb-true, le-leb, ne-eqb, eqb-false, not-true}
-use Rattle.lists.proofs.Tests.{clash, and-true, both}
-use Rattle.numbers.specs.Decimal.{decimalLength, digits, written, isDigit, digitsAhead, valueAfter, unpadded, inForm, Field, fieldOf, numberAt}
-use Rattle.numbers.specs.Claims.{NumberClaim}
+use borrow.Author.Tests.{ltb-true, ltb-false, leb-true, lt-ltb, le-leb, lt-leb, ne-eqb, eqb-false, not-true}
+use Rattle.lists.proofs.Tests.{clash, and-true, both, Compared, equal, other, compare}
+use Rattle.numbers.specs.Decimal.{decimalLength, digits, written, isDigit, digitsAhead, valueAfter, few, inForm, Field, fieldOf, numberAt}
+use Rattle.numbers.specs.Padding.{padded}
+use Rattle.numbers.specs.Claims.{Standing, NumberClaim}
 
 -- ---- values
 value-append : (v : ℕ) (ds es : List ℕ) → valueAfter v (ds ++ es) ≡ valueAfter (valueAfter v ds) es
@@ -43,14 +44,14 @@ pub record Digit (b : ℕ) : Type 0 where
 pub digit-tested : (b : ℕ) → isDigit b ≡ true → Digit b
 digit-tested b t = let z = both (leb 48 b) (leb b 57) t in record { test = t; low = leb-true 48 b (z .0); high = leb-true b 57 (z .1) }
 
-digit-bounded : (b : ℕ) → 48 ≤ b → b ≤ 57 → Digit b
+pub digit-bounded : (b : ℕ) → 48 ≤ b → b ≤ 57 → Digit b
 digit-bounded b p q = record { test = and-true (le-leb 48 b p) (le-leb b 57 q); low = p; high = q }
 
-abbrev AllDigits : List ℕ → Type 0
+abbrev pub AllDigits : List ℕ → Type 0
 AllDigits [] = Unit {0}
 AllDigits (d ∷ ds) = Digit d × AllDigits ds
 
-all-append : (ds es : List ℕ) → AllDigits ds → AllDigits es → AllDigits (ds ++ es)
+pub all-append : (ds es : List ℕ) → AllDigits ds → AllDigits es → AllDigits (ds ++ es)
 all-append [] es p q = q
 all-append (d ∷ ds) es p q = (p .0, all-append ds es (p .1) q)
 
@@ -63,7 +64,7 @@ length-digits zero x = refl
 length-digits (suc k) x = let h = length-digits k (x / 10) in omega (arith, length-append (digits k (x / 10)) ((48 + x % 10) ∷ []))
 
 -- ---- the digits that a text begins with
-ahead-all : (l : List ℕ) → AllDigits (digitsAhead l)
+pub ahead-all : (l : List ℕ) → AllDigits (digitsAhead l)
 ahead-all [] = tt
 ahead-all (b ∷ l) = go (isDigit b) refl (ahead-all l)
   where
@@ -72,7 +73,7 @@ ahead-all (b ∷ l) = go (isDigit b) refl (ahead-all l)
     go false e ih = tt
 
 -- They are the text up to their length.
-ahead-drop : (l : List ℕ) → l ≡ digitsAhead l ++ drop (length (digitsAhead l)) l
+pub ahead-drop : (l : List ℕ) → l ≡ digitsAhead l ++ drop (length (digitsAhead l)) l
 ahead-drop [] = refl
 ahead-drop (b ∷ l) = go (isDigit b) (ahead-drop l)
   where
@@ -80,8 +81,17 @@ ahead-drop (b ∷ l) = go (isDigit b) (ahead-drop l)
     go true ih = ap (λ (r : List ℕ). b ∷ r) ih
     go false ih = refl
 
+-- No digit follows them.
+pub ahead-ends : (l : List ℕ) → digitsAhead (drop (length (digitsAhead l)) l) ≡ []
+ahead-ends [] = refl
+ahead-ends (b ∷ l) = go (isDigit b) refl (ahead-ends l)
+  where
+    go : (t : Bool) → isDigit b ≡ t → digitsAhead (drop (length (digitsAhead l)) l) ≡ [] → digitsAhead (drop (length (cond t (b ∷ digitsAhead l) [])) (b ∷ l)) ≡ []
+    go true e ih = ih
+    go false e ih = rw e
+
 -- Digits are read up to where none follows.
-ahead-append : (ds rest : List ℕ) → AllDigits ds → digitsAhead rest ≡ [] → digitsAhead (ds ++ rest) ≡ ds
+pub ahead-append : (ds rest : List ℕ) → AllDigits ds → digitsAhead rest ≡ [] → digitsAhead (ds ++ rest) ≡ ds
 ahead-append [] rest p e = e
 ahead-append (d ∷ ds) rest p e = rw (p .0 .test) (ap (λ (l : List ℕ). d ∷ l) (ahead-append ds rest (p .1) e))
 
@@ -135,7 +145,13 @@ long x h = go (ltb x 10) (ltb x 100) (ltb x 1000) (ltb x 10000) refl refl refl r
     go false false false true p q r s = more 2 (ltb-false x 1000 r) (ltb-true x 10000 s)
     go false false false false p q r s = more 3 (ltb-false x 10000 s) (omega arith)
 
--- Digits with no leading zero are as many as the value is long.
+-- One digit, or several of which the first is no zero.
+abbrev pub unpadded : List ℕ → Bool
+unpadded [] = false
+unpadded (d ∷ []) = true
+unpadded (d ∷ (e ∷ ds)) = not (eqb d 48)
+
+-- They are as many as the value is long.
 value-above : (k v : ℕ) (ds : List ℕ) → 10 ^ k ≤ v → 10 ^ (k + length ds) ≤ valueAfter v ds
 value-above k v [] h = let e : k + 0 ≡ k = omega arith in rw e h
 value-above k v (d ∷ ds) h =
@@ -176,19 +192,19 @@ long-unpadded (one p) = refl
 long-unpadded {x} (more k p q) = ap unpadded (sym (append-nil (digits (suc (suc k)) x))) ∙ digits-unpadded (suc k) x [] p q
 
 -- ---- a number written
-written-all : (x : ℕ) → AllDigits (written x)
+pub written-all : (x : ℕ) → AllDigits (written x)
 unfolding written
 written-all x = digits-all (decimalLength x) x
 
-written-value : (x : ℕ) → x ≤ 65535 → valueAfter 0 (written x) ≡ x
+pub written-value : (x : ℕ) → x ≤ 65535 → valueAfter 0 (written x) ≡ x
 unfolding written
 written-value x h = value-digits (decimalLength x) x (long-below (long x h))
 
-written-form : (x : ℕ) → x ≤ 65535 → inForm (written x) ≡ true
+pub written-unpadded : (x : ℕ) → x ≤ 65535 → unpadded (written x) ≡ true
 unfolding written
-written-form x h = and-true (long-unpadded (long x h)) (ap (λ (v : ℕ). leb v 65535) (written-value x h) ∙ le-leb x 65535 h)
+written-unpadded x h = long-unpadded (long x h)
 
-written-again : (ds : List ℕ) → AllDigits ds → unpadded ds ≡ true → valueAfter 0 ds ≤ 65535 → written (valueAfter 0 ds) ≡ ds
+pub written-again : (ds : List ℕ) → AllDigits ds → unpadded ds ≡ true → valueAfter 0 ds ≤ 65535 → written (valueAfter 0 ds) ≡ ds
 unfolding written
 written-again ds p u h =
     let e : length ds ≡ 0 + length ds = omega arith in
@@ -203,45 +219,125 @@ length-written x h = rw (length-digits (decimalLength x) x) (go (long x h))
     go (one p) = omega arith
     go (more k p q) = omega (arith, order (suc k) 5 x p (omega arith))
 
+-- ---- zeros in front
+-- They leave the value.
+value-zeros : (z : ℕ) (ds : List ℕ) → valueAfter 0 (replicate z 48 ++ ds) ≡ valueAfter 0 ds
+value-zeros zero ds = refl
+value-zeros (suc z) ds = value-zeros z ds
+
+zeros-all : (z : ℕ) → AllDigits (replicate z 48)
+zeros-all zero = tt
+zeros-all (suc z) = (digit-bounded 48 (omega arith) (omega arith), zeros-all z)
+
+pub padded-all : (z x : ℕ) → AllDigits (padded z x)
+padded-all z x = all-append (replicate z 48) (written x) (zeros-all z) (written-all x)
+
+pub padded-value : (z x : ℕ) → x ≤ 65535 → valueAfter 0 (padded z x) ≡ x
+padded-value z x h = value-zeros z (written x) ∙ written-value x h
+
+pub padded-form : (z x : ℕ) → x ≤ 65535 → length (padded z x) ≤ 5 → inForm (padded z x) ≡ true
+padded-form z x h l =
+    let some-digit : 0 < length (padded z x) = omega (arith, length-append (replicate z 48) (written x), length-written x h .0) in
+    and-true (and-true (lt-ltb 0 (length (padded z x)) some-digit) (le-leb (length (padded z x)) _ (omega (arith, l)))) (ap (λ (v : ℕ). leb v 65535) (padded-value z x h) ∙ le-leb x 65535 h)
+
+-- A number that is written is in form.
+pub written-form : (x : ℕ) → x ≤ 65535 → inForm (written x) ≡ true
+written-form x h = padded-form 0 x h (length-written x h .1)
+
+-- Some zeros, and digits that are not padded.
+record Split (ds : List ℕ) : Type 0 where
+  zeros : ℕ
+  digits-left : List ℕ
+  all : AllDigits digits-left
+  form : unpadded digits-left ≡ true
+  joined : ds ≡ replicate zeros 48 ++ digits-left
+
+split : (d : ℕ) (ds : List ℕ) → AllDigits (d ∷ ds) → Split (d ∷ ds)
+split d [] p = record { zeros = 0; digits-left = d ∷ []; all = p; form = refl; joined = refl }
+split d (e ∷ ds) p = go (compare d 48) (split e ds (p .1))
+  where
+    go : Compared d 48 → Split (e ∷ ds) → Split (d ∷ e ∷ ds)
+    go (equal q t) s = record { zeros = suc (s .zeros); digits-left = s .digits-left; all = s .all; form = s .form; joined = λ i. q i ∷ s .joined i }
+    go (other q t) s = record { zeros = 0; digits-left = d ∷ e ∷ ds; all = p; form = ap not t; joined = refl }
+
+-- Digits in form are their value behind zeros.
+record Again (ds : List ℕ) : Type 0 where
+  zeros : ℕ
+  same : ds ≡ padded zeros (valueAfter 0 ds)
+
+again : (ds : List ℕ) → AllDigits ds → 0 < length ds → valueAfter 0 ds ≤ 65535 → Again ds
+again [] p l h = absurd (omega arith)
+again (d ∷ ds) p l h =
+    let s = split d ds p in
+    let v : valueAfter 0 (s .digits-left) ≡ valueAfter 0 (d ∷ ds) = sym (ap (valueAfter 0) (s .joined) ∙ value-zeros (s .zeros) (s .digits-left)) in
+    let w : written (valueAfter 0 (s .digits-left)) ≡ s .digits-left = written-again (s .digits-left) (s .all) (s .form) (omega arith) in
+    record { zeros = s .zeros; same = s .joined ∙ ap (λ (l : List ℕ). replicate (s .zeros) 48 ++ l) (sym w ∙ ap written v) }
+
 -- ---- a number read
 -- What is known of a number found.
-record Read (text : List ℕ) (at : ℕ) (f : Field) : Type 0 where
-  fits : f .value ≤ 65535
-  bytes : digitsAhead (drop at text) ≡ written (f .value)
-  past : f .next ≡ at + length (written (f .value))
+pub record Read (text : List ℕ) (at : ℕ) (f : Field) : Type 0 where
+  pub form : inForm (digitsAhead (drop at text)) ≡ true
+  pub value-is : valueAfter 0 (digitsAhead (drop at text)) ≡ f .value
+  pub past : f .next ≡ at + length (digitsAhead (drop at text))
 
-read : (text : List ℕ) (at : ℕ) (f : Field) → numberAt text at ≡ some f → Read text at f
+pub number-read : (text : List ℕ) (at : ℕ) (f : Field) → numberAt text at ≡ some f → Read text at f
 unfolding numberAt
-read text at f h = go (digitsAhead (drop at text)) refl (inForm (digitsAhead (drop at text))) refl h
+number-read text at f h = go (inForm (digitsAhead (drop at text))) refl h
   where
-    go : (ds : List ℕ) → digitsAhead (drop at text) ≡ ds → (b : Bool) → inForm ds ≡ b → cond b (some (record { value = valueAfter 0 ds; next = at + length ds })) none ≡ some f → Read text at f
-    go ds s true e h =
-        let form = both (unpadded ds) (leb (valueAfter 0 ds) 65535) e in
-        let fit : valueAfter 0 ds ≤ 65535 = leb-true (valueAfter 0 ds) 65535 (form .1) in
-        let again = written-again ds (subst AllDigits s (ahead-all (drop at text))) (form .0) fit in
+    ds : List ℕ
+    ds = digitsAhead (drop at text)
+
+    go : (b : Bool) → inForm ds ≡ b → cond b (some (record { value = valueAfter 0 ds; next = at + length ds })) none ≡ some f → Read text at f
+    go true e h =
         let found : record { value = valueAfter 0 ds; next = at + length ds } ≡ f = cc in
-        subst (Read text at) found (record { fits = fit; bytes = s ∙ sym again; past = ap (λ (l : List ℕ). at + length l) (sym again) })
-    go ds s false e h = absurd (let z : _≡_ {A = ℕ} 0 1 = cc in omega arith)
+        record { form = e; value-is = ap (λ (g : Field). g .value) found; past = sym (ap (λ (g : Field). g .next) found) }
+    go false e h = absurd (let z : _≡_ {A = ℕ} 0 1 = cc in omega arith)
 
-reads-back : (x : ℕ) (front rest : List ℕ) → x ≤ 65535 → digitsAhead rest ≡ [] → numberAt (front ++ (written x ++ rest)) (length front) ≡ some (record { value = x; next = length front + length (written x) })
+-- Digits in form are few, and fit.
+pub form-bounds : (ds : List ℕ) → inForm ds ≡ true → (0 < length ds) × (length ds ≤ 5) × (valueAfter 0 ds ≤ 65535)
+form-bounds ds e =
+    let a = both (few ds) (leb (valueAfter 0 ds) 65535) e in
+    let b = both (ltb 0 (length ds)) (leb (length ds) 5) (a .0) in
+    (ltb-true 0 (length ds) (b .0), leb-true (length ds) 5 (b .1), leb-true (valueAfter 0 ds) 65535 (a .1))
+
+stands : (text : List ℕ) (at : ℕ) (f : Field) → numberAt text at ≡ some f → Standing text at f
+stands text at f h =
+    let r = number-read text at f h in
+    let ds = digitsAhead (drop at text) in
+    let b = form-bounds ds (r .form) in
+    let a = again ds (ahead-all (drop at text)) (b .0) (b .2) in
+    let same : ds ≡ padded (a .zeros) (f .value) = a .same ∙ ap (padded (a .zeros)) (r .value-is) in
+    let behind : drop (length ds) (drop at text) ≡ drop (f .next) text = drop-drop (length ds) at text ∙ ap (λ (k : ℕ). drop k text) (sym (r .past)) in
+    record {
+      zeros = a .zeros;
+      fits = omega (arith, r .value-is, b .2);
+      few = omega (arith, ap length same, b .1);
+      past = r .past ∙ ap (λ (l : List ℕ). at + length l) same;
+      bytes = ahead-drop (drop at text) ∙ (λ i. same i ++ behind i);
+      ends = ap digitsAhead (sym behind) ∙ ahead-ends (drop at text);
+    }
+
+-- Digits ahead that are in form are found.
+pub number-here : (text : List ℕ) (at : ℕ) (ds : List ℕ) → digitsAhead (drop at text) ≡ ds → inForm ds ≡ true → numberAt text at ≡ some (record { value = valueAfter 0 ds; next = at + length ds })
 unfolding numberAt
-reads-back x front rest h e =
-    ap (λ (l : List ℕ). fieldOf (digitsAhead l) (length front)) (drop-append-seam front (written x ++ rest))
-    ∙ ap (λ (ds : List ℕ). fieldOf ds (length front)) (ahead-append (written x) rest (written-all x) e)
-    ∙ rw (written-form x h, written-value x h)
+number-here text at ds e f = ap (λ (l : List ℕ). fieldOf l at) e ∙ rw f
 
-writes-back : (text : List ℕ) (at : ℕ) (f : Field) → numberAt text at ≡ some f → drop at text ≡ written (f .value) ++ drop (f .next) text
-writes-back text at f h =
-    let r = read text at f h in
-    let past : at + length (digitsAhead (drop at text)) ≡ f .next = ap (λ (l : List ℕ). at + length l) (r .bytes) ∙ sym (r .past) in
-    ahead-drop (drop at text)
-    ∙ (λ i. r .bytes i ++ drop-drop (length (digitsAhead (drop at text))) at text i)
-    ∙ ap (λ (k : ℕ). written (f .value) ++ drop k text) past
+-- A number that stands at a place is found there.
+reads : (text : List ℕ) (at : ℕ) (f : Field) → Standing text at f → numberAt text at ≡ some f
+reads text at f s =
+    let ds = padded (s .zeros) (f .value) in
+    let ahead : digitsAhead (drop at text) ≡ ds = ap digitsAhead (s .bytes) ∙ ahead-append ds (drop (f .next) text) (padded-all (s .zeros) (f .value)) (s .ends) in
+    let v = padded-value (s .zeros) (f .value) (s .fits) in
+    let n = sym (s .past) in
+    number-here text at ds ahead (padded-form (s .zeros) (f .value) (s .fits) (s .few)) ∙ (λ i. some (record { value = v i; next = n i }))
+
+too-long : (text : List ℕ) (at : ℕ) → 5 < length (digitsAhead (drop at text)) → numberAt text at ≡ none
+unfolding numberAt
+too-long text at h = let ds = digitsAhead (drop at text) in rw (lt-leb (length ds) 5 h, and-false (ltb 0 (length ds)))
+
+too-large : (text : List ℕ) (at : ℕ) → 65535 < valueAfter 0 (digitsAhead (drop at text)) → numberAt text at ≡ none
+unfolding numberAt
+too-large text at h = let ds = digitsAhead (drop at text) in rw (lt-leb (valueAfter 0 ds) 65535 h, and-false (few ds))
 
 pub number-claim : NumberClaim
-number-claim = record {
-  reads-back = reads-back;
-  fits = λ text at f h. read text at f h .fits;
-  writes-back = writes-back;
-  moves-on = λ text at f h. read text at f h .past;
-}
+number-claim = record { size = length-written; found = λ text at f. (stands text at f, reads text at f); too-long = too-long; too-large = too-large }

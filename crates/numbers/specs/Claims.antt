@@ -1,14 +1,96 @@
--- What is claimed of numbers, as a type; proofs/Numbers has the theorem. Callers rest on it and on no definition of a number.
+-- What is claimed of numbers and of padding, as types; proofs/Numbers, proofs/Padding and proofs/Examples have the theorems. Callers rest on
+-- these and on no definition of a number.
 use mathlib.Core.Path.{_≡_}
-use mathlib.Core.List.{List, [], _++_}
-use mathlib.Core.Option.{some}
-use Prim.Native.Nat.{ℕ, _+_, _≤_}
+use mathlib.Core.Logic.{_↔_}
+use mathlib.Core.Bool.{true, false, _||_}
+use mathlib.Core.List.{List, [], _∷_, _++_}
+use mathlib.Core.Option.{Option, none, some}
+use Prim.Native.Nat.{ℕ, _+_, _≤_, _<_}
 use lib.ListN.{length, drop}
-use Rattle.numbers.specs.Decimal.{written, digitsAhead, Field, numberAt}
+use Rattle.numbers.specs.Decimal.{written, isDigit, digitsAhead, valueAfter, Field, numberAt}
+use Rattle.numbers.specs.Padding.{padded, hasPadding, unpad}
 
--- A number written into a text is read back, if no digit follows it; and a number read stands there as it is written.
+-- ---- numbers
+-- A number stands at the place: some zeros and the number as it is written, five digits in all at most, and no digit behind them.
+pub record Standing (text : List ℕ) (at : ℕ) (f : Field) : Type 0 where
+  pub zeros : ℕ
+  pub fits : f .value ≤ 65535
+  pub few : length (padded zeros (f .value)) ≤ 5
+  pub past : f .next ≡ at + length (padded zeros (f .value))
+  pub bytes : drop at text ≡ padded zeros (f .value) ++ drop (f .next) text
+  pub ends : digitsAhead (drop (f .next) text) ≡ []
+
+-- A number is written with one to five digits. One is found exactly where one stands. Six digits are none, and digits worth more than 65,535 are
+-- none.
 pub record NumberClaim : Type 0 where
-  pub reads-back : (x : ℕ) (front rest : List ℕ) → x ≤ 65535 → digitsAhead rest ≡ [] → numberAt (front ++ (written x ++ rest)) (length front) ≡ some (record { value = x; next = length front + length (written x) })
-  pub fits : (text : List ℕ) (at : ℕ) (f : Field) → numberAt text at ≡ some f → f .value ≤ 65535
-  pub writes-back : (text : List ℕ) (at : ℕ) (f : Field) → numberAt text at ≡ some f → drop at text ≡ written (f .value) ++ drop (f .next) text
-  pub moves-on : (text : List ℕ) (at : ℕ) (f : Field) → numberAt text at ≡ some f → f .next ≡ at + length (written (f .value))
+  pub size : (x : ℕ) → x ≤ 65535 → (1 ≤ length (written x)) × (length (written x) ≤ 5)
+  pub found : (text : List ℕ) (at : ℕ) (f : Field) → (numberAt text at ≡ some f) ↔ Standing text at f
+  pub too-long : (text : List ℕ) (at : ℕ) → 5 < length (digitsAhead (drop at text)) → numberAt text at ≡ none
+  pub too-large : (text : List ℕ) (at : ℕ) → 65535 < valueAfter 0 (digitsAhead (drop at text)) → numberAt text at ≡ none
+
+-- ---- padding
+-- What is written of a number has no padding; behind zeros it has. Nothing has none, and two texts with a byte between them that is no digit have
+-- padding where either has.
+pub record PaddingClaim : Type 0 where
+  pub no-padding : (x : ℕ) → x ≤ 65535 → hasPadding (written x) ≡ false
+  pub padding : (x z : ℕ) → x ≤ 65535 → 0 < z → hasPadding (padded z x) ≡ true
+  pub nothing : hasPadding [] ≡ false
+  pub byte : (front : List ℕ) (b : ℕ) (rest : List ℕ) → isDigit b ≡ false → hasPadding (front ++ (b ∷ rest)) ≡ (hasPadding front || hasPadding rest)
+
+-- Taking padding off: a number becomes what is written of it, digits that are none stay, and two texts with a byte between them that is no digit
+-- lose theirs each by itself. A text that has none stays as it is. So padding one number, wherever it stands, gives a text that differs in
+-- padding only.
+pub record UnpadClaim : Type 0 where
+  pub number : (x z : ℕ) (rest : List ℕ) → x ≤ 65535 → length (padded z x) ≤ 5 → digitsAhead rest ≡ [] → unpad (padded z x ++ rest) ≡ written x ++ unpad rest
+  pub no-number : (text : List ℕ) → numberAt text 0 ≡ none → unpad text ≡ digitsAhead text ++ unpad (drop (length (digitsAhead text)) text)
+  pub byte : (front : List ℕ) (b : ℕ) (rest : List ℕ) → isDigit b ≡ false → unpad (front ++ (b ∷ rest)) ≡ unpad front ++ (b ∷ unpad rest)
+  pub nothing : unpad [] ≡ []
+  pub kept : (text : List ℕ) → hasPadding text ≡ false → unpad text ≡ text
+  pub anywhere : (front : List ℕ) (b x z : ℕ) (rest : List ℕ) → isDigit b ≡ false → x ≤ 65535 → length (padded z x) ≤ 5 → digitsAhead rest ≡ []
+      → unpad (front ++ (b ∷ (padded z x ++ rest))) ≡ unpad (front ++ (b ∷ (written x ++ rest)))
+
+-- The number x is found at the place, and behind it stands `rest`, but for padding.
+pub record Found (text : List ℕ) (at x : ℕ) (rest : List ℕ) : Type 0 where
+  pub next : ℕ
+  pub found : numberAt text at ≡ some (record { value = x; next = next })
+  pub within : next ≤ length text
+  pub behind : unpad (drop next text) ≡ rest
+
+-- Reading and padding: a number is found exactly where it stands, but for padding; and where a byte that is no digit, or the end, stands
+-- without padding, it stands in the text.
+pub record ReadingClaim : Type 0 where
+  pub reads : (text : List ℕ) (at x : ℕ) (rest : List ℕ) → x ≤ 65535 → at ≤ length text → unpad (drop at text) ≡ written x ++ rest → digitsAhead rest ≡ [] → Found text at x rest
+  pub was-read : (text : List ℕ) (at : ℕ) (f : Field) → numberAt text at ≡ some f → unpad (drop at text) ≡ written (f .value) ++ unpad (drop (f .next) text)
+  pub byte-was : (b : ℕ) (text rest : List ℕ) → isDigit b ≡ false → unpad text ≡ b ∷ rest → (text ≡ b ∷ drop 1 text) × (unpad (drop 1 text) ≡ rest)
+  pub end-was : (text : List ℕ) → unpad text ≡ [] → text ≡ []
+
+-- ---- examples
+-- A text, and the number at its first place, or none.
+pub record Example : Type 0 where
+  pub text : List ℕ
+  pub says : Option Field
+
+abbrev example : List ℕ → Option Field → Example
+example text says = record { text = text; says = says }
+
+abbrev value : ℕ → ℕ → Option Field
+value x next = some (record { value = x; next = next })
+
+-- `00000`, `00012`, `12`, `65535`; `000012`, `065535`, `65536`, `99999`, and no digit at all.
+abbrev pub examples : List Example
+examples =
+    example (48 ∷ 48 ∷ 48 ∷ 48 ∷ 48 ∷ []) (value 0 5)
+    ∷ example (48 ∷ 48 ∷ 48 ∷ 49 ∷ 50 ∷ []) (value 12 5)
+    ∷ example (49 ∷ 50 ∷ []) (value 12 2)
+    ∷ example (54 ∷ 53 ∷ 53 ∷ 51 ∷ 53 ∷ []) (value 65535 5)
+    ∷ example (48 ∷ 48 ∷ 48 ∷ 48 ∷ 49 ∷ 50 ∷ []) none
+    ∷ example (48 ∷ 54 ∷ 53 ∷ 53 ∷ 51 ∷ 53 ∷ []) none
+    ∷ example (54 ∷ 53 ∷ 53 ∷ 51 ∷ 54 ∷ []) none
+    ∷ example (57 ∷ 57 ∷ 57 ∷ 57 ∷ 57 ∷ []) none
+    ∷ example [] none
+    ∷ []
+
+-- Each says what it is to say.
+abbrev pub Said : List Example → Type 0
+Said [] = Unit {0}
+Said (e ∷ es) = (numberAt (e .text) 0 ≡ e .says) × Said es

@@ -1,9 +1,9 @@
 -- Numbers of the text (document 01, "Text and program"): how one is written, and how one is read.
-use mathlib.Core.Bool.{Bool, true, false, cond, not, _&&_}
+use mathlib.Core.Bool.{Bool, cond, _&&_}
 use mathlib.Core.List.{List, [], _∷_, _++_}
 use mathlib.Core.Option.{Option, none, some}
 use Prim.Native.Nat.{ℕ, zero, suc, _+_, _-_, _*_, _/_, _%_}
-use lib.Dec.{eqb, ltb, leb}
+use lib.Dec.{ltb, leb}
 use lib.ListN.{length, drop}
 use Rattle.lists.specs.Words.{pasted}
 
@@ -56,15 +56,13 @@ abbrev pub valueAfter : ℕ → List ℕ → ℕ
 valueAfter x [] = x
 valueAfter x (d ∷ ds) = valueAfter (x * 10 + (d - 48)) ds
 
--- One digit, or several of which the first is no zero.
-abbrev pub unpadded : List ℕ → Bool
-unpadded [] = false
-unpadded (d ∷ []) = true
-unpadded (d ∷ (e ∷ ds)) = not (eqb d 48)
+-- One to five digits.
+abbrev pub few : List ℕ → Bool
+few ds = ltb 0 (length ds) && leb (length ds) 5
 
--- Digits in the form of a number: no leading zero, zero itself being 0, at most 65,535.
+-- Digits in the form of a number: one to five, the first of which may be zeros, and at most 65,535.
 abbrev pub inForm : List ℕ → Bool
-inForm ds = unpadded ds && leb (valueAfter 0 ds) 65535
+inForm ds = few ds && leb (valueAfter 0 ds) 65535
 
 -- A number found, and the place past it.
 pub record Field : Type 0 where

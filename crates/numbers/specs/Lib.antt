@@ -1,3 +1,4 @@
 pub mod Decimal
 pub mod Answers
+pub mod Padding
 pub mod Claims

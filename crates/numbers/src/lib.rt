@@ -59,7 +59,7 @@ fn is_digit(b: u8) -> bool
 }
 
 // The number in the text from place at on, and the place past its last digit. Digits are read while there are any, so that what
-// follows a number is no digit; a leading zero and a value over 65,535 are out of form.
+// follows a number is no digit; the first may be zeros, but a sixth digit and a value over 65,535 are out of form.
 pub fn read_number(text: &[u8], at: usize) -> Number
     ensures { λ r. ⌜ numberFound r ≡ numberAt (now (text .entry)) at ⌝ }
 {
@@ -80,8 +80,8 @@ pub fn read_number(text: &[u8], at: usize) -> Number
                 next: i,
             };
         }
-        // A digit behind a leading zero.
-        if value == 0 {
+        // A sixth digit.
+        if i - at == 5 {
             return Number::Out;
         }
         value = value * 10 + (b - 48) as u32;

@@ -33,14 +33,14 @@ use Rattle.texts.specs.Loading.{Reading, loaded, reading, afterOf, tailOf, imag
 use Rattle.texts.specs.Answers.{sizes, answerTo}
 use Rattle.texts.specs.Claims.{Loads}
 use Rattle.texts.proofs.Texts.{as-many}
-use Rattle.texts.proofs.Loads.{taken, load-claim}
+use Rattle.texts.proofs.Loads.{taken, Fits, loaded-fits, load-claim}
 use Rattle.walks.proofs.Numbers.{own-long}
 use Rattle.report.specs.declared.walk.Totals.{Totals}
 use Rattle.report.specs.Printed.{eventNames, totalNames, eventRows, printedOf, walkPrinted}
 use Rattle.report.specs.Inside.{rows, printedFrom, totalsIn, CanWalk}
 use Rattle.report.specs.Report.{graphFrom, walkFrom, lentAreas, reported, reportOf, told}
 use Rattle.report.proofs.Rows.{rows-events}
-use Rattle.report.proofs.Judged.{Long, long-areas, reading-long, Fits, loaded-fits, said-loaded}
+use Rattle.report.proofs.Judged.{Long, long-areas, reading-long, said-loaded}
 
 -- ---- numbers kept
 -- Numbers that are kept give the same list.
@@ -81,7 +81,7 @@ module _ (text after tail marks events : List ℕ) (p : Listing) (e : reading te
   L = load-claim text after tail p e
 
   -- It is within the limits, and fits the areas.
-  F : Fits p after tail
+  pub F : Fits p after tail
   F = loaded-fits text after tail p e
 
   -- Its walk can be opened.
@@ -95,7 +95,7 @@ module _ (text after tail marks events : List ℕ) (p : Listing) (e : reading te
       taken-sound g (p .start) areas .1 (L .profile-sound, λ i. a i || (t i || (k i || (v i || false))))
 
   -- A sound image, and a start in it.
-  P : Profile g (p .start) areas
+  pub P : Profile g (p .start) areas
   unfolding openNumber
   P = profile-sound g (p .start) areas opens
 
@@ -123,11 +123,11 @@ module _ (text after tail marks events : List ℕ) (p : Listing) (e : reading te
   h = depthWalk g (p .start)
 
   -- The two walks are one.
-  same-walk : h ≡ walkFrom p
+  pub same-walk : h ≡ walkFrom p
   same-walk = sym (renamed-same h) ∙ depth-renamed same-graph [] (p .start) (P .start-vertex)
 
   -- The elements that it reaches have the same lists.
-  same-met : met (graphOf g) (labelled h) ≡ met (graphFrom p) (labelled h)
+  pub same-met : met (graphOf g) (labelled h) ≡ met (graphFrom p) (labelled h)
   same-met =
       let R = profile-ready g (P .sound) (p .start) (P .start-vertex) in
       let N = reached-labels (graphOf g) [] (p .start) R (labelled h) (depth-first (graphOf g) [] (p .start) R .complete .labels) in

@@ -10,13 +10,13 @@ use lib.Dec.{eqb, ltb}
 use lib.ListN.{length}
 use borrow.Author.Tests.{eqb-false, ltb-false, lt-ltb, le-ltb}
 use Rattle.lists.proofs.Tests.{neither}
-use Rattle.graphs.specs.Refusals.{refuse, firstOf, Lent, lent, short, verticesOut, edgesOut, vertexOut, textOut, sizeRefusals}
-use Rattle.graphs.proofs.Refusals.{all-false, long}
+use Rattle.graphs.specs.Refusals.{refuse, firstOf, Lent, lent, short, verticesOut, edgesOut, vertexOut, textOut}
+use Rattle.graphs.proofs.Refusals.{long}
 use Rattle.walks.proofs.Numbers.{own-short, own-long}
 use Rattle.texts.specs.Text.{Listing, listingOf}
 use Rattle.texts.specs.Loading.{Reading, refused, loaded, decided, judged, reading, linesOut, listingNumber, afterLeft, tailLeft}
 use Rattle.texts.specs.Answers.{Answer, refusedWith, sizes, answerTo}
-use Rattle.texts.proofs.Loads.{taken}
+use Rattle.texts.proofs.Loads.{loaded-fits}
 use Rattle.report.specs.declared.text.Report.{Report}
 use Rattle.report.specs.Report.{lentAreas, judgedWith, walkReading, numberTo, reported, reportOf, told}
 
@@ -69,26 +69,8 @@ reading-long text after tail marks events output h = reading-same text after tai
 pub reading-short : (text : List ℕ) (areas : List Lent) → short areas ≡ true → reading text [] [] ≡ walkReading areas text
 reading-short text areas h = reading-same text [] [] areas (λ n m a b. (let some-n = eqb-false n 0 (neither (eqb n 0) (ltb 1000 n) a .0) in ap (λ (x : Bool). x || (ltb 0 m || false)) (lt-ltb 0 (n + m) (omega arith)) ∙ sym h))
 
--- ---- what is loaded
--- A profile loaded is within the limits, and fits the areas.
-pub record Fits (p : Listing) (after tail : List ℕ) : Type 0 where
-  pub some-vertex : 0 < p .n
-  pub few-vertices : p .n ≤ 1000
-  pub few-edges : p .m ≤ 4000
-  pub fits-after : p .n + p .m ≤ length after
-  pub fits-tail : p .m ≤ length tail
-
--- So it is with every text loaded.
-pub loaded-fits : (text after tail : List ℕ) (p : Listing) → reading text after tail ≡ loaded p → Fits p after tail
-unfolding listingNumber
-loaded-fits text after tail p e =
-    let c = all-false (sizeRefusals (p .n) (p .m) (lent (p .n + p .m) after ∷ lent (p .m) tail ∷ []) ++ refuse 4 (vertexOut (p .n) (p .start)) ∷ refuse 6 (linesOut (p .n) (p .lines)) ∷ []) [] (omega arith) (taken text after tail p e .1) .0 in
-    let v = neither (eqb (p .n) 0) (ltb 1000 (p .n)) (c .0) in
-    let some-n = eqb-false (p .n) 0 (v .0) in
-    let a = long (p .n + p .m) after (lent (p .m) tail ∷ []) (c .1 .1 .0) in
-    record { some-vertex = omega arith; few-vertices = ltb-false 1000 (p .n) (v .1); few-edges = ltb-false 4000 (p .m) (c .1 .0); fits-after = a .0; fits-tail = long (p .m) tail [] (a .1) .0 }
-
--- So no text is loaded into no words.
+-- ---- no words
+-- No text is loaded into no words.
 none-loaded : (text : List ℕ) (p : Listing) → reading text [] [] ≡ loaded p → ⊥
 none-loaded text p e = let f = loaded-fits text [] [] p e in omega (arith, f .some-vertex, f .fits-after)
 

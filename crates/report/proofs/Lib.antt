@@ -4,3 +4,5 @@ pub mod Judged
 pub mod Graphs
 pub mod Fits
 pub mod Example
+pub mod Padding
+pub mod Plain

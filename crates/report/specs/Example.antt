@@ -3,6 +3,7 @@ use mathlib.Core.Path.{_≡_}
 use mathlib.Core.List.{List, [], _∷_}
 use mathlib.Core.Option.{some}
 use Prim.Native.Nat.{ℕ}
+use Rattle.numbers.specs.Padding.{unpad}
 use Rattle.texts.specs.Text.{Line, Listing, listingOf}
 use Rattle.report.specs.Printed.{walkPrinted}
 use Rattle.report.specs.Report.{graphFrom}
@@ -16,6 +17,17 @@ exampleText =
     ∷ 49 ∷ 44 ∷ 51 ∷ 10
     ∷ 50 ∷ 44 ∷ 51 ∷ 10
     ∷ 51 ∷ 44 ∷ 49 ∷ 10 ∷ []
+
+-- The same text with every number padded to five digits.
+abbrev pub paddedText : List ℕ
+paddedText =
+    101 ∷ 108 ∷ 101 ∷ 109 ∷ 101 ∷ 110 ∷ 116 ∷ 115 ∷ 44 ∷ 114 ∷ 101 ∷ 102 ∷ 101 ∷ 114 ∷ 101 ∷ 110 ∷ 99 ∷ 101 ∷ 115 ∷ 44 ∷ 115 ∷ 116 ∷ 97 ∷ 114 ∷ 116 ∷ 10
+    ∷ 48 ∷ 48 ∷ 48 ∷ 48 ∷ 51 ∷ 44 ∷ 48 ∷ 48 ∷ 48 ∷ 48 ∷ 52 ∷ 44 ∷ 48 ∷ 48 ∷ 48 ∷ 48 ∷ 49 ∷ 10
+    ∷ 102 ∷ 114 ∷ 111 ∷ 109 ∷ 44 ∷ 116 ∷ 111 ∷ 10
+    ∷ 48 ∷ 48 ∷ 48 ∷ 48 ∷ 49 ∷ 44 ∷ 48 ∷ 48 ∷ 48 ∷ 48 ∷ 50 ∷ 10
+    ∷ 48 ∷ 48 ∷ 48 ∷ 48 ∷ 49 ∷ 44 ∷ 48 ∷ 48 ∷ 48 ∷ 48 ∷ 51 ∷ 10
+    ∷ 48 ∷ 48 ∷ 48 ∷ 48 ∷ 50 ∷ 44 ∷ 48 ∷ 48 ∷ 48 ∷ 48 ∷ 51 ∷ 10
+    ∷ 48 ∷ 48 ∷ 48 ∷ 48 ∷ 51 ∷ 44 ∷ 48 ∷ 48 ∷ 48 ∷ 48 ∷ 49 ∷ 10 ∷ []
 
 abbrev pub examplePrinted : List ℕ
 examplePrinted =
@@ -44,7 +56,9 @@ line from to = record { from = from; to = to }
 abbrev pub example : Listing
 example = record { n = 3; m = 4; start = 1; lines = line 1 2 ∷ line 1 3 ∷ line 2 3 ∷ line 3 1 ∷ [] }
 
--- The text says it, and this is printed of it.
+-- Either text says it, and this is printed of it. Without padding they are one text.
 pub record ExampleClaim : Type 0 where
   pub says : listingOf exampleText ≡ some example
+  pub padded-says : listingOf paddedText ≡ some example
+  pub one-text : unpad paddedText ≡ exampleText
   pub prints : walkPrinted (graphFrom example) (example .start) ≡ examplePrinted

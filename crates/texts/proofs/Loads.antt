@@ -7,10 +7,10 @@ use mathlib.Core.List.{List, [], _∷_, _++_, map, append-assoc}
 use mathlib.Core.Option.{Option, none, some, Option·some-injective, Option·none-ne-some}
 use Prim.Native.Nat.{ℕ, zero, suc, _+_, _-_, _≤_, _<_}
 use native.Mathlib.Omega.{arith}
-use lib.Dec.{eqb}
+use lib.Dec.{eqb, ltb}
 use lib.ListN.{length, getD, drop, length-append, length-map}
 use lib.Seq.{drop-drop, drop-at, getD-drop}
-use borrow.Author.Tests.{eq-eqb, ne-eqb, not-false}
+use borrow.Author.Tests.{eq-eqb, ne-eqb, eqb-false, ltb-false, not-false}
 use Rattle.lists.specs.Members.{Mem, here, there, consIf}
 use Rattle.lists.specs.Counts.{bump, countIn}
 use Rattle.lists.specs.Words.{at, valuesFrom, filled}
@@ -22,7 +22,7 @@ use Rattle.graphs.specs.Nodes.{Vertex, isVertex, isLink}
 use Rattle.graphs.specs.Image.{Image, chain, edgesOf, to, listsTo}
 use Rattle.graphs.specs.Refusals.{refuse, lent, vertexOut, afterOut, tailOut, listOut, textOut, sizeRefusals, sound}
 use Rattle.graphs.proofs.Nodes.{vertex-is, edge-yes, link-of-edge}
-use Rattle.graphs.proofs.Refusals.{all-false}
+use Rattle.graphs.proofs.Refusals.{all-false, long}
 use Rattle.texts.specs.Text.{Line, Listing, listingOf}
 use Rattle.texts.specs.Loading.{Reading, refused, loaded, decided, judged, reading, edgesFrom, firstFrom, nextsFrom, afterOf, tailOf, imageIn, lineOut, linesOut, listingNumber}
 use Rattle.texts.specs.Claims.{LoadClaim}
@@ -46,6 +46,24 @@ taken text after tail p e = in-form (textOut (length text)) (listingOf text) (ap
     in-form true o d = absurd (Option·none-ne-some p d)
     in-form false none d = absurd (Option·none-ne-some p d)
     in-form false (some q) d = right q (listingNumber q after tail) refl d
+
+-- A profile loaded is within the limits, and fits the areas.
+pub record Fits (p : Listing) (after tail : List ℕ) : Type 0 where
+  pub some-vertex : 0 < p .n
+  pub few-vertices : p .n ≤ 1000
+  pub few-edges : p .m ≤ 4000
+  pub fits-after : p .n + p .m ≤ length after
+  pub fits-tail : p .m ≤ length tail
+
+-- So it is with every text loaded.
+pub loaded-fits : (text after tail : List ℕ) (p : Listing) → reading text after tail ≡ loaded p → Fits p after tail
+unfolding listingNumber
+loaded-fits text after tail p e =
+    let c = all-false (sizeRefusals (p .n) (p .m) (lent (p .n + p .m) after ∷ lent (p .m) tail ∷ []) ++ refuse 4 (vertexOut (p .n) (p .start)) ∷ refuse 6 (linesOut (p .n) (p .lines)) ∷ []) [] (omega arith) (taken text after tail p e .1) .0 in
+    let v = neither (eqb (p .n) 0) (ltb 1000 (p .n)) (c .0) in
+    let some-n = eqb-false (p .n) 0 (v .0) in
+    let a = long (p .n + p .m) after (lent (p .m) tail ∷ []) (c .1 .1 .0) in
+    record { some-vertex = omega arith; few-vertices = ltb-false 1000 (p .n) (v .1); few-edges = ltb-false 4000 (p .m) (c .1 .0); fits-after = a .0; fits-tail = long (p .m) tail [] (a .1) .0 }
 
 -- ---- words
 -- The words in front are those put there.

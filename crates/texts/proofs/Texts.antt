@@ -1,21 +1,23 @@
--- Reading what is written of a profile gives the profile back, and a text in its form is what is written of what it says, if that holds of numbers.
--- By layers, number, field, line, lines, head: what lies ahead at a place is read, and what is read lay ahead.
+-- A text says a profile exactly if it is what is written of that profile, but for padding; from the claims of numbers alone.
+-- By layers, number, field, line, lines, head: what lies ahead at a place, but for padding, is read, and what is read lay ahead.
 use mathlib.Core.Path.{_≡_, refl, sym, ap, _∙_, subst}
-use mathlib.Core.Bool.{Bool, true, false, cond}
+use mathlib.Core.Bool.{Bool, true, false, cond, not, _&&_}
 use mathlib.Core.List.{List, [], _∷_, _++_, append-assoc}
 use mathlib.Core.Option.{Option, none, some}
-use Prim.Native.Nat.{ℕ, zero, suc, _+_, _≤_, _<_}
+use Prim.Native.Nat.{ℕ, zero, suc, _+_, _*_, _≤_, _<_}
 use native.Mathlib.Omega.{arith}
 use lib.Dec.{eqb}
-use lib.ListN.{length, getD, take, drop, take-append-drop, length-append, length-drop, drop-of-length-le, List·getD-eq-default}
-use lib.Seq.{length-take-le, drop-cons, drop-append-seam, drop-drop, getD-drop}
-use borrow.Author.Tests.{eqb-true, eq-eqb}
+use lib.ListN.{length, getD, drop, length-drop, drop-of-length-le, List·getD-eq-default}
+use lib.Seq.{drop-cons, drop-drop, getD-drop}
+use borrow.Author.Tests.{eqb-true, eq-eqb, not-true}
 use Rattle.lists.proofs.Tests.{clash, and-true, both}
-use Rattle.numbers.specs.Decimal.{written, digitsAhead, Field, numberAt}
+use Rattle.numbers.specs.Decimal.{written, isDigit, digitsAhead, Field, numberAt}
+use Rattle.numbers.specs.Padding.{unpad}
 use Rattle.texts.specs.Text.{Line, Listing, comma, lineFeed, elementNames, lineNames, row, linesText, textOf, Short, Writable, andThen, begins, namesAt, stopped, fieldAt, Found, lineAt, linesAt, Head, headAt, listingOf}
-use Rattle.numbers.specs.Claims.{NumberClaim}
 use Rattle.texts.specs.Claims.{TextClaim}
 use Rattle.numbers.proofs.Numbers.{number-claim}
+use Rattle.numbers.proofs.Padding.{unpad-claim, reading-claim}
+use Rattle.texts.proofs.Plain.{byte-kept, noDigits, names-kept, no-padding}
 
 -- ---- readings one after another
 -- P of what is found, if anything is.
@@ -69,10 +71,6 @@ row-three : (x y z : ℕ) (rest : List ℕ) → row (x ∷ y ∷ z ∷ []) ++ re
 row-three x y z rest = append-assoc (written x) (comma ∷ row (y ∷ z ∷ [])) rest ∙ ap (λ (l : List ℕ). written x ++ comma ∷ l) (row-two y z rest)
 
 -- ---- names
-begins-yes : (xs rest : List ℕ) → begins xs (xs ++ rest) ≡ true
-begins-yes [] rest = refl
-begins-yes (x ∷ xs) rest = and-true (eq-eqb x x refl) (begins-yes xs rest)
-
 begins-is : (xs bs : List ℕ) → begins xs bs ≡ true → bs ≡ xs ++ drop (length xs) bs
 begins-is [] bs e = refl
 begins-is (x ∷ xs) [] e = clash (sym e)
@@ -80,152 +78,218 @@ begins-is (x ∷ xs) (b ∷ bs) e =
     let q = both (eqb x b) (begins xs bs) e in
     λ i. sym (eqb-true x b (q .0)) i ∷ begins-is xs bs (q .1) i
 
--- ---- what lies ahead at a place
+-- ---- what lies ahead at a place, but for padding
 record Ahead (text : List ℕ) (at : ℕ) (ws : List ℕ) : Type 0 where
   within : at ≤ length text
-  rest : drop at text ≡ ws
+  rest : unpad (drop at text) ≡ ws
 
--- Past some of it lies what follows.
-ahead-past : (text : List ℕ) (at : ℕ) (ws rest : List ℕ) → Ahead text at (ws ++ rest) → Ahead text (at + length ws) rest
-ahead-past text at ws rest h =
-    let z : length text ≡ at + (length ws + length rest) = omega (arith, length-drop at text, ap length (h .rest), length-append ws rest) in
-    record {
-      within = omega arith;
-      rest = sym (drop-drop (length ws) at text) ∙ ap (drop (length ws)) (h .rest) ∙ drop-append-seam ws rest;
-    }
-
-names-ahead : (text : List ℕ) (at : ℕ) (names rest : List ℕ) → Ahead text at (names ++ rest) → namesAt text at names ≡ some (at + length names)
-names-ahead text at names rest h =
-    let e : begins names (drop at text) ≡ true = ap (begins names) (h .rest) ∙ begins-yes names rest in
-    ap (λ (b : Bool). cond b (some (at + length names)) none) e
-
-names-read : (text : List ℕ) (at : ℕ) (names : List ℕ) → Finds (λ q. drop at text ≡ names ++ drop q text) (namesAt text at names)
-names-read text at names = finds-if _ (begins names (drop at text)) (at + length names) (λ e. begins-is names (drop at text) e ∙ ap (λ (l : List ℕ). names ++ l) (drop-drop (length names) at text))
-
--- ---- places
--- The place past a number and the byte behind it.
-abbrev past : ℕ → ℕ → ℕ
-past at x = suc (at + length (written x))
-
--- The place where the value lines begin.
-abbrev begin : Listing → ℕ
-begin p = past (past (past (length elementNames) (p .n)) (p .m)) (p .start) + length lineNames
+-- It is read, and behind it lies `rest`.
+record Reads {A : Type 0} (found-at : Option A) (make : ℕ → A) (text rest : List ℕ) : Type 0 where
+  next : ℕ
+  found : found-at ≡ some (make next)
+  ahead : Ahead text next rest
 
 -- ---- what is read at a place: it lies there, in front of what lies at the next place, and its numbers fit
 abbrev FieldRead : List ℕ → ℕ → ℕ → Field → Type 0
-FieldRead text at stop f = (drop at text ≡ written (f .value) ++ stop ∷ drop (f .next) text) × (f .value ≤ 65535)
+FieldRead text at stop f = (unpad (drop at text) ≡ written (f .value) ++ stop ∷ unpad (drop (f .next) text)) × (f .value ≤ 65535)
 
 abbrev LineRead : List ℕ → ℕ → Found → Type 0
-LineRead text at l = (drop at text ≡ row (l .line .from ∷ l .line .to ∷ []) ++ drop (l .next) text) × (l .line .from ≤ 65535) × (l .line .to ≤ 65535)
+LineRead text at l = (unpad (drop at text) ≡ row (l .line .from ∷ l .line .to ∷ []) ++ unpad (drop (l .next) text)) × (l .line .from ≤ 65535) × (l .line .to ≤ 65535)
 
 abbrev LinesRead : List ℕ → ℕ → List Line → Type 0
-LinesRead text at ls = (drop at text ≡ linesText ls) × Short ls
+LinesRead text at ls = (unpad (drop at text) ≡ linesText ls) × Short ls
 
 abbrev HeadRead : List ℕ → Head → Type 0
-HeadRead text h = (text ≡ elementNames ++ (row (h .n ∷ h .m ∷ h .start ∷ []) ++ (lineNames ++ drop (h .next) text))) × (h .n ≤ 65535) × (h .m ≤ 65535) × (h .start ≤ 65535)
+HeadRead text h = (unpad text ≡ elementNames ++ (row (h .n ∷ h .m ∷ h .start ∷ []) ++ (lineNames ++ unpad (drop (h .next) text)))) × (h .n ≤ 65535) × (h .m ≤ 65535) × (h .start ≤ 65535)
 
 abbrev ListingRead : List ℕ → Listing → Type 0
-ListingRead text p = (text ≡ textOf p) × (p .n ≤ 65535) × (p .m ≤ 65535) × (p .start ≤ 65535) × Short (p .lines)
+ListingRead text p = (unpad text ≡ textOf p) × (p .n ≤ 65535) × (p .m ≤ 65535) × (p .start ≤ 65535) × Short (p .lines)
 
-module _ (numbers : NumberClaim) where
-  -- ---- what lies ahead is read
-  number-ahead : (text : List ℕ) (at x : ℕ) (rest : List ℕ) → x ≤ 65535 → digitsAhead rest ≡ [] → Ahead text at (written x ++ rest) → numberAt text at ≡ some (record { value = x; next = at + length (written x) })
-  number-ahead text at x rest fits none-ahead h =
-      let whole : take at text ++ (written x ++ rest) ≡ text = ap (λ (l : List ℕ). take at text ++ l) (sym (h .rest)) ∙ take-append-drop at text in
-      let front : length (take at text) ≡ at = length-take-le at text (h .within) in
-      let read = numbers .reads-back x (take at text) rest fits none-ahead in
-      rw (whole, front) at read
+-- ---- how far a reading comes
+abbrev FieldNear : ℕ → Field → Type 0
+FieldNear at f = f .next ≤ at + 6
 
-  field-ahead : (text : List ℕ) (at x stop : ℕ) (rest : List ℕ) → x ≤ 65535 → digitsAhead (stop ∷ rest) ≡ [] → Ahead text at (written x ++ stop ∷ rest) → (fieldAt text at stop ≡ some (record { value = x; next = past at x })) × Ahead text (past at x) rest
-  unfolding fieldAt
-  field-ahead text at x stop rest fits none-ahead h =
-      let next : ℕ = at + length (written x) in
-      let a = ahead-past text at (written x) (stop ∷ rest) h in
-      let same : next + 0 ≡ next = omega arith in
-      let one : next + 1 ≡ suc next = omega arith in
-      let byte : getD text next 0 ≡ stop = ap (λ (i : ℕ). getD text i 0) (sym same) ∙ sym (getD-drop next text 0 0) ∙ ap (λ (l : List ℕ). getD l 0 0) (a .rest) in
-      (found-then (stopped text stop) (number-ahead text at x (stop ∷ rest) fits none-ahead h) (rw (eq-eqb _ stop byte)), subst (λ (i : ℕ). Ahead text i rest) one (ahead-past text next (stop ∷ []) rest a))
+abbrev LineNear : ℕ → Found → Type 0
+LineNear at l = l .next ≤ at + 12
 
-  line-ahead : (text : List ℕ) (at : ℕ) (l : Line) (rest : List ℕ) → l .from ≤ 65535 → l .to ≤ 65535 → Ahead text at (row (l .from ∷ l .to ∷ []) ++ rest) → (lineAt text at ≡ some (record { line = l; next = past (past at (l .from)) (l .to) })) × Ahead text (past (past at (l .from)) (l .to)) rest
-  unfolding lineAt
-  line-ahead text at l rest f t h =
-      let a = field-ahead text at (l .from) comma (written (l .to) ++ lineFeed ∷ rest) f refl (rw (row-two (l .from) (l .to) rest) at h) in
-      let b = field-ahead text (past at (l .from)) (l .to) lineFeed rest t refl (a .1) in
-      (found-then _ (a .0) (found-then _ (b .0) refl), b .1)
+abbrev LinesNear : List ℕ → ℕ → ℕ → List Line → Type 0
+LinesNear text at k ls = length text ≤ at + 12 * k
 
-  lines-ahead : (text : List ℕ) (at : ℕ) (ls : List Line) → Short ls → Ahead text at (linesText ls) → linesAt text at (length ls) ≡ some ls
-  unfolding linesAt
-  lines-ahead text at [] f h = rw (eq-eqb at (length text) (omega (arith, h .within, length-drop at text, ap length (h .rest))))
-  lines-ahead text at (l ∷ ls) f h =
-      let a = line-ahead text at l (linesText ls) (f .0) (f .1) h in
-      found-then _ (a .0) (found-then _ (lines-ahead text (past (past at (l .from)) (l .to)) ls (f .2) (a .1)) refl)
+abbrev HeadNear : Head → Type 0
+HeadNear h = h .next ≤ 52
 
-  head-ahead : (text : List ℕ) (p : Listing) (rest : List ℕ) → Writable p → Ahead text 0 (elementNames ++ (row (p .n ∷ p .m ∷ p .start ∷ []) ++ (lineNames ++ rest))) → (headAt text ≡ some (record { n = p .n; m = p .m; start = p .start; next = begin p })) × Ahead text (begin p) rest
-  unfolding headAt
-  head-ahead text p rest w h =
-      let values = row (p .n ∷ p .m ∷ p .start ∷ []) ++ (lineNames ++ rest) in
-      let a = ahead-past text 0 elementNames values h in
-      let b = field-ahead text _ (p .n) comma _ (w .n-fits) refl (rw (row-three (p .n) (p .m) (p .start) (lineNames ++ rest)) at a) in
-      let c = field-ahead text _ (p .m) comma _ (w .m-fits) refl (b .1) in
-      let d = field-ahead text _ (p .start) lineFeed (lineNames ++ rest) (w .start-fits) refl (c .1) in
-      (found-then _ (names-ahead text 0 elementNames values h) (found-then _ (b .0) (found-then _ (c .0) (found-then _ (d .0) (found-then _ (names-ahead text _ lineNames rest (d .1)) refl)))), ahead-past text _ lineNames rest (d .1))
+abbrev ListingNear : List ℕ → Listing → Type 0
+ListingNear text p = length text ≤ 12 * p .m + 52
 
-  reads-back : (p : Listing) → Writable p → listingOf (textOf p) ≡ some p
-  unfolding textOf listingOf
-  reads-back p w =
-      let a = head-ahead (textOf p) p (linesText (p .lines)) w (record { within = omega arith; rest = refl }) in
-      found-then _ (a .0) (found-then _ (ap (linesAt (textOf p) (begin p)) (sym (w .as-many)) ∙ lines-ahead (textOf p) (begin p) (p .lines) (w .lines-fit) (a .1)) refl)
+-- ---- names and padding
+names-were : (xs l rest : List ℕ) → noDigits xs ≡ true → unpad l ≡ xs ++ rest → (begins xs l ≡ true) × (unpad (drop (length xs) l) ≡ rest) × (length xs ≤ length l)
+names-were [] l rest e h = (refl, h, omega arith)
+names-were (x ∷ xs) [] rest e h = absurd (omega (arith, ap length (sym (unpad-claim .nothing) ∙ h)))
+names-were (x ∷ xs) (c ∷ l) rest e h =
+    let q = both (not (isDigit x)) (noDigits xs) e in
+    let b = reading-claim .byte-was x (c ∷ l) (xs ++ rest) (not-true (isDigit x) (q .0)) h in
+    let same : c ≡ x = ap (λ (k : List ℕ). getD k 0 0) (b .0) in
+    let ih = names-were xs l rest (q .1) (b .1) in
+    (and-true (eq-eqb x c (sym same)) (ih .0), ih .1, omega (arith, ih .2))
 
-  -- ---- what is read lay ahead
-  field-read : (text : List ℕ) (at stop : ℕ) → 0 < stop → Finds (FieldRead text at stop) (fieldAt text at stop)
-  unfolding fieldAt
-  field-read text at stop h = finds-then _ (FieldRead text at stop) (numberAt text at) (stopped text stop) (finds-same (numberAt text at)) (λ f e. finds-if (FieldRead text at stop) _ _ (λ t. go f e (eqb-true _ stop t)))
-    where
-      go : (f : Field) → numberAt text at ≡ some f → getD text (f .next) 0 ≡ stop → FieldRead text at stop (record { value = f .value; next = suc (f .next) })
-      go f e byte =
-          let out : length text ≤ f .next → ⊥ = λ q. (let z : getD text (f .next) 0 ≡ 0 = List·getD-eq-default text 0 q in omega arith) in
-          let within : f .next < length text = omega arith in
-          (numbers .writes-back text at f e ∙ ap (λ (l : List ℕ). written (f .value) ++ l) (drop-cons text (f .next) 0 within ∙ (λ i. byte i ∷ drop (suc (f .next)) text)), numbers .fits text at f e)
+names-ahead : (text : List ℕ) (at : ℕ) (names rest : List ℕ) → noDigits names ≡ true → Ahead text at (names ++ rest) → Reads (namesAt text at names) (λ next. next) text rest
+names-ahead text at names rest e h =
+    let w = names-were names (drop at text) rest e (h .rest) in
+    record {
+      next = at + length names;
+      found = ap (λ (b : Bool). cond b (some (at + length names)) none) (w .0);
+      ahead = record { within = omega (arith, h .within, w .2, length-drop at text); rest = ap unpad (sym (drop-drop (length names) at text)) ∙ w .1 };
+    }
 
-  line-read : (text : List ℕ) (at : ℕ) → Finds (LineRead text at) (lineAt text at)
-  unfolding lineAt
-  line-read text at =
-      finds-then _ (LineRead text at) (fieldAt text at comma) _ (field-read text at comma (omega arith))
-      (λ f a. finds-then _ (LineRead text at) (fieldAt text (f .next) lineFeed) _ (field-read text (f .next) lineFeed (omega arith))
-      (λ t b. (a .0 ∙ ap (λ (l : List ℕ). written (f .value) ++ comma ∷ l) (b .0) ∙ sym (row-two (f .value) (t .value) (drop (t .next) text)), a .1, b .1)))
+names-read : (text : List ℕ) (at : ℕ) (names : List ℕ) → noDigits names ≡ true → Finds (λ q. unpad (drop at text) ≡ names ++ unpad (drop q text)) (namesAt text at names)
+names-read text at names d =
+    finds-if _ (begins names (drop at text)) (at + length names)
+    (λ e. ap unpad (begins-is names (drop at text) e) ∙ names-kept names (drop (length names) (drop at text)) d ∙ ap (λ (l : List ℕ). names ++ unpad l) (drop-drop (length names) at text))
 
-  lines-read : (text : List ℕ) (at k : ℕ) → Finds (LinesRead text at) (linesAt text at k)
-  unfolding linesAt
-  lines-read text at zero = finds-if (LinesRead text at) (eqb at (length text)) [] (λ e. (drop-of-length-le text {i = at} (let z = eqb-true at (length text) e in omega arith), tt))
-  lines-read text at (suc k) =
-      finds-then _ (LinesRead text at) (lineAt text at) _ (line-read text at)
-      (λ l a. finds-then _ (LinesRead text at) (linesAt text (l .next) k) _ (lines-read text (l .next) k)
-      (λ ls b. (a .0 ∙ ap (λ (t : List ℕ). row (l .line .from ∷ l .line .to ∷ []) ++ t) (b .0), (a .1, a .2, b .1))))
+-- ---- what lies ahead is read
+field-ahead : (text : List ℕ) (at x stop : ℕ) (rest : List ℕ) → x ≤ 65535 → isDigit stop ≡ false → Ahead text at (written x ++ stop ∷ rest) → Reads (fieldAt text at stop) (λ next. record { value = x; next = next }) text rest
+unfolding fieldAt
+field-ahead text at x stop rest fits other h =
+    let none-ahead : digitsAhead (stop ∷ rest) ≡ [] = rw other in
+    let f = reading-claim .reads text at x (stop ∷ rest) fits (h .within) (h .rest) none-ahead in
+    let b = reading-claim .byte-was stop (drop (f .next) text) rest other (f .behind) in
+    let same : f .next + 0 ≡ f .next = omega arith in
+    let byte : getD text (f .next) 0 ≡ stop = ap (λ (i : ℕ). getD text i 0) (sym same) ∙ sym (getD-drop (f .next) text 0 0) ∙ ap (λ (l : List ℕ). getD l 0 0) (b .0) in
+    let one : f .next + 1 ≡ suc (f .next) = omega arith in
+    record {
+      next = suc (f .next);
+      found = found-then (stopped text stop) (f .found) (rw (eq-eqb _ stop byte));
+      ahead = record { within = omega (arith, f .within, length-drop (f .next) text, ap length (b .0)); rest = ap unpad (ap (λ (k : ℕ). drop k text) (sym one) ∙ sym (drop-drop 1 (f .next) text)) ∙ b .1 };
+    }
 
-  head-read : (text : List ℕ) → Finds (HeadRead text) (headAt text)
-  unfolding headAt
-  head-read text =
-      finds-then _ (HeadRead text) (namesAt text 0 elementNames) _ (names-read text 0 elementNames)
-      (λ p a. finds-then _ (HeadRead text) (fieldAt text p comma) _ (field-read text p comma (omega arith))
-      (λ n b. finds-then _ (HeadRead text) (fieldAt text (n .next) comma) _ (field-read text (n .next) comma (omega arith))
-      (λ m c. finds-then _ (HeadRead text) (fieldAt text (m .next) lineFeed) _ (field-read text (m .next) lineFeed (omega arith))
-      (λ s d. finds-then _ (HeadRead text) (namesAt text (s .next) lineNames) _ (names-read text (s .next) lineNames)
-      (λ q e. (a ∙ ap (λ (l : List ℕ). elementNames ++ l) (b .0 ∙ ap (λ (l : List ℕ). written (n .value) ++ comma ∷ l) (c .0 ∙ ap (λ (l : List ℕ). written (m .value) ++ comma ∷ l) (d .0 ∙ ap (λ (l : List ℕ). written (s .value) ++ lineFeed ∷ l) e)) ∙ sym (row-three (n .value) (m .value) (s .value) (lineNames ++ drop q text))), b .1, c .1, d .1))))))
+line-ahead : (text : List ℕ) (at : ℕ) (l : Line) (rest : List ℕ) → l .from ≤ 65535 → l .to ≤ 65535 → Ahead text at (row (l .from ∷ l .to ∷ []) ++ rest) → Reads (lineAt text at) (λ next. record { line = l; next = next }) text rest
+unfolding lineAt
+line-ahead text at l rest f t h =
+    let a = field-ahead text at (l .from) comma (written (l .to) ++ lineFeed ∷ rest) f refl (rw (row-two (l .from) (l .to) rest) at h) in
+    let b = field-ahead text (a .next) (l .to) lineFeed rest t refl (a .ahead) in
+    record { next = b .next; found = found-then _ (a .found) (found-then _ (b .found) refl); ahead = b .ahead }
 
-  listing-read : (text : List ℕ) → Finds (ListingRead text) (listingOf text)
-  unfolding listingOf textOf
-  listing-read text =
-      finds-then _ (ListingRead text) (headAt text) _ (head-read text)
-      (λ h a. finds-then _ (ListingRead text) (linesAt text (h .next) (h .m)) _ (lines-read text (h .next) (h .m))
-      (λ ls b. (a .0 ∙ ap (λ (l : List ℕ). elementNames ++ (row (h .n ∷ h .m ∷ h .start ∷ []) ++ (lineNames ++ l))) (b .0), a .1, a .2, a .3, b .1)))
+lines-ahead : (text : List ℕ) (at : ℕ) (ls : List Line) → Short ls → Ahead text at (linesText ls) → linesAt text at (length ls) ≡ some ls
+unfolding linesAt
+lines-ahead text at [] f h = rw (eq-eqb at (length text) (omega (arith, h .within, length-drop at text, ap length (reading-claim .end-was (drop at text) (h .rest)))))
+lines-ahead text at (l ∷ ls) f h =
+    let a = line-ahead text at l (linesText ls) (f .0) (f .1) h in
+    found-then _ (a .found) (found-then _ (lines-ahead text (a .next) ls (f .2) (a .ahead)) refl)
 
-  writes-back : (text : List ℕ) (p : Listing) → listingOf text ≡ some p → Writable p × (text ≡ textOf p)
-  writes-back text p e =
-      let r = found (ListingRead text) (listing-read text) e in
-      (record { n-fits = r .1; m-fits = r .2; start-fits = r .3; lines-fit = r .4; as-many = as-many text p e }, r .0)
+head-ahead : (text : List ℕ) (p : Listing) (rest : List ℕ) → Writable p → Ahead text 0 (elementNames ++ (row (p .n ∷ p .m ∷ p .start ∷ []) ++ (lineNames ++ rest))) → Reads (headAt text) (λ next. record { n = p .n; m = p .m; start = p .start; next = next }) text rest
+unfolding headAt
+head-ahead text p rest w h =
+    let a = names-ahead text 0 elementNames (row (p .n ∷ p .m ∷ p .start ∷ []) ++ (lineNames ++ rest)) refl h in
+    let b = field-ahead text _ (p .n) comma _ (w .n-fits) refl (rw (row-three (p .n) (p .m) (p .start) (lineNames ++ rest)) at a .ahead) in
+    let c = field-ahead text _ (p .m) comma _ (w .m-fits) refl (b .ahead) in
+    let d = field-ahead text _ (p .start) lineFeed (lineNames ++ rest) (w .start-fits) refl (c .ahead) in
+    let e = names-ahead text _ lineNames rest refl (d .ahead) in
+    record { next = e .next; found = found-then _ (a .found) (found-then _ (b .found) (found-then _ (c .found) (found-then _ (d .found) (found-then _ (e .found) refl)))); ahead = e .ahead }
 
-  pub text-of-numbers : TextClaim
-  text-of-numbers = record { reads-back = reads-back; writes-back = writes-back }
+reads-back : (text : List ℕ) (p : Listing) → Writable p → unpad text ≡ textOf p → listingOf text ≡ some p
+unfolding textOf listingOf
+reads-back text p w h =
+    let a = head-ahead text p (linesText (p .lines)) w (record { within = omega arith; rest = h }) in
+    found-then _ (a .found) (found-then _ (ap (linesAt text (a .next)) (sym (w .as-many)) ∙ lines-ahead text (a .next) (p .lines) (w .lines-fit) (a .ahead)) refl)
+
+-- ---- what is read lay ahead
+field-read : (text : List ℕ) (at stop : ℕ) → 0 < stop → isDigit stop ≡ false → Finds (FieldRead text at stop) (fieldAt text at stop)
+unfolding fieldAt
+field-read text at stop h other = finds-then _ (FieldRead text at stop) (numberAt text at) (stopped text stop) (finds-same (numberAt text at)) (λ f e. finds-if (FieldRead text at stop) _ _ (λ t. go f e (eqb-true _ stop t)))
+  where
+    go : (f : Field) → numberAt text at ≡ some f → getD text (f .next) 0 ≡ stop → FieldRead text at stop (record { value = f .value; next = suc (f .next) })
+    go f e byte =
+        let out : length text ≤ f .next → ⊥ = λ q. (let z : getD text (f .next) 0 ≡ 0 = List·getD-eq-default text 0 q in omega arith) in
+        let within : f .next < length text = omega arith in
+        (reading-claim .was-read text at f e ∙ ap (λ (l : List ℕ). written (f .value) ++ l) (ap unpad (drop-cons text (f .next) 0 within ∙ (λ i. byte i ∷ drop (suc (f .next)) text)) ∙ byte-kept stop (drop (suc (f .next)) text) other), number-claim .found text at f .0 e .fits)
+
+line-read : (text : List ℕ) (at : ℕ) → Finds (LineRead text at) (lineAt text at)
+unfolding lineAt
+line-read text at =
+    finds-then _ (LineRead text at) (fieldAt text at comma) _ (field-read text at comma (omega arith) refl)
+    (λ f a. finds-then _ (LineRead text at) (fieldAt text (f .next) lineFeed) _ (field-read text (f .next) lineFeed (omega arith) refl)
+    (λ t b. (a .0 ∙ ap (λ (l : List ℕ). written (f .value) ++ comma ∷ l) (b .0) ∙ sym (row-two (f .value) (t .value) (unpad (drop (t .next) text))), a .1, b .1)))
+
+lines-read : (text : List ℕ) (at k : ℕ) → Finds (LinesRead text at) (linesAt text at k)
+unfolding linesAt
+lines-read text at zero = finds-if (LinesRead text at) (eqb at (length text)) [] (λ e. (ap unpad (drop-of-length-le text {i = at} (let z = eqb-true at (length text) e in omega arith)) ∙ unpad-claim .nothing, tt))
+lines-read text at (suc k) =
+    finds-then _ (LinesRead text at) (lineAt text at) _ (line-read text at)
+    (λ l a. finds-then _ (LinesRead text at) (linesAt text (l .next) k) _ (lines-read text (l .next) k)
+    (λ ls b. (a .0 ∙ ap (λ (t : List ℕ). row (l .line .from ∷ l .line .to ∷ []) ++ t) (b .0), (a .1, a .2, b .1))))
+
+head-read : (text : List ℕ) → Finds (HeadRead text) (headAt text)
+unfolding headAt
+head-read text =
+    finds-then _ (HeadRead text) (namesAt text 0 elementNames) _ (names-read text 0 elementNames refl)
+    (λ p a. finds-then _ (HeadRead text) (fieldAt text p comma) _ (field-read text p comma (omega arith) refl)
+    (λ n b. finds-then _ (HeadRead text) (fieldAt text (n .next) comma) _ (field-read text (n .next) comma (omega arith) refl)
+    (λ m c. finds-then _ (HeadRead text) (fieldAt text (m .next) lineFeed) _ (field-read text (m .next) lineFeed (omega arith) refl)
+    (λ s d. finds-then _ (HeadRead text) (namesAt text (s .next) lineNames) _ (names-read text (s .next) lineNames refl)
+    (λ q e. (a ∙ ap (λ (l : List ℕ). elementNames ++ l) (b .0 ∙ ap (λ (l : List ℕ). written (n .value) ++ comma ∷ l) (c .0 ∙ ap (λ (l : List ℕ). written (m .value) ++ comma ∷ l) (d .0 ∙ ap (λ (l : List ℕ). written (s .value) ++ lineFeed ∷ l) e)) ∙ sym (row-three (n .value) (m .value) (s .value) (lineNames ++ unpad (drop q text)))), b .1, c .1, d .1))))))
+
+listing-read : (text : List ℕ) → Finds (ListingRead text) (listingOf text)
+unfolding listingOf textOf
+listing-read text =
+    finds-then _ (ListingRead text) (headAt text) _ (head-read text)
+    (λ h a. finds-then _ (ListingRead text) (linesAt text (h .next) (h .m)) _ (lines-read text (h .next) (h .m))
+    (λ ls b. (a .0 ∙ ap (λ (l : List ℕ). elementNames ++ (row (h .n ∷ h .m ∷ h .start ∷ []) ++ (lineNames ++ l))) (b .0), a .1, a .2, a .3, b .1)))
+
+writes-back : (text : List ℕ) (p : Listing) → listingOf text ≡ some p → Writable p × (unpad text ≡ textOf p)
+writes-back text p e =
+    let r = found (ListingRead text) (listing-read text) e in
+    (record { n-fits = r .1; m-fits = r .2; start-fits = r .3; lines-fit = r .4; as-many = as-many text p e }, r .0)
+
+-- ---- texts that differ in padding only
+alike : (s t : List ℕ) → unpad s ≡ unpad t → listingOf s ≡ listingOf t
+alike s t e = go (listingOf s) (listingOf t) refl refl
+  where
+    go : (o q : Option Listing) → listingOf s ≡ o → listingOf t ≡ q → listingOf s ≡ listingOf t
+    go (some p) q h k = let w = writes-back s p h in h ∙ sym (reads-back t p (w .0) (sym e ∙ w .1))
+    go none (some p) h k = let w = writes-back t p k in reads-back s p (w .0) (e ∙ w .1) ∙ sym k
+    go none none h k = h ∙ sym k
+
+-- ---- how long a text is: a number and the byte behind it are 6 bytes at most
+field-near : (text : List ℕ) (at stop : ℕ) → Finds (FieldNear at) (fieldAt text at stop)
+unfolding fieldAt
+field-near text at stop =
+    finds-then _ (FieldNear at) (numberAt text at) (stopped text stop) (finds-same (numberAt text at))
+    (λ f e. finds-if (FieldNear at) (eqb (getD text (f .next) 0) stop) (record { value = f .value; next = suc (f .next) }) (λ t. go f e))
+  where
+    go : (f : Field) → numberAt text at ≡ some f → suc (f .next) ≤ at + 6
+    go f e = let s = number-claim .found text at f .0 e in omega (arith, s .past, s .few)
+
+line-near : (text : List ℕ) (at : ℕ) → Finds (LineNear at) (lineAt text at)
+unfolding lineAt
+line-near text at =
+    finds-then (FieldNear at) (LineNear at) (fieldAt text at comma) _ (field-near text at comma)
+    (λ f a. finds-then (FieldNear (f .next)) (LineNear at) (fieldAt text (f .next) lineFeed) _ (field-near text (f .next) lineFeed) (λ t b. omega arith))
+
+lines-near : (text : List ℕ) (at k : ℕ) → Finds (LinesNear text at k) (linesAt text at k)
+unfolding linesAt
+lines-near text at zero = finds-if (LinesNear text at 0) (eqb at (length text)) [] (λ e. let z = eqb-true at (length text) e in omega arith)
+lines-near text at (suc k) =
+    finds-then (LineNear at) (LinesNear text at (suc k)) (lineAt text at) _ (line-near text at)
+    (λ l a. finds-then (LinesNear text (l .next) k) (LinesNear text at (suc k)) (linesAt text (l .next) k) _ (lines-near text (l .next) k) (λ ls b. omega arith))
+
+head-near : (text : List ℕ) → Finds HeadNear (headAt text)
+unfolding headAt
+head-near text =
+    finds-then (λ (p : ℕ). p ≤ 26) HeadNear (namesAt text 0 elementNames) _ (finds-if (λ (p : ℕ). p ≤ 26) (begins elementNames text) (0 + length elementNames) (λ e. omega arith))
+    (λ p a. finds-then (FieldNear p) HeadNear (fieldAt text p comma) _ (field-near text p comma)
+    (λ n b. finds-then (FieldNear (n .next)) HeadNear (fieldAt text (n .next) comma) _ (field-near text (n .next) comma)
+    (λ m c. finds-then (FieldNear (m .next)) HeadNear (fieldAt text (m .next) lineFeed) _ (field-near text (m .next) lineFeed)
+    (λ s d. finds-then (λ (q : ℕ). q ≤ s .next + 8) HeadNear (namesAt text (s .next) lineNames) _ (finds-if (λ (q : ℕ). q ≤ s .next + 8) (begins lineNames (drop (s .next) text)) (s .next + length lineNames) (λ e. omega arith))
+    (λ q e. omega arith)))))
+
+listing-near : (text : List ℕ) → Finds (ListingNear text) (listingOf text)
+unfolding listingOf
+listing-near text =
+    finds-then HeadNear (ListingNear text) (headAt text) _ (head-near text)
+    (λ h a. finds-then (LinesNear text (h .next) (h .m)) (ListingNear text) (linesAt text (h .next) (h .m)) _ (lines-near text (h .next) (h .m)) (λ ls b. omega arith))
+
+longest : (text : List ℕ) (p : Listing) → listingOf text ≡ some p → length text ≤ 12 * p .m + 52
+longest text p e = found (ListingNear text) (listing-near text) e
 
 pub text-claim : TextClaim
-text-claim = text-of-numbers number-claim
+text-claim = record { says = λ text p. (writes-back text p, λ w. reads-back text p (w .0) (w .1)); no-padding = no-padding; alike = alike; longest = longest }

@@ -1,17 +1,17 @@
 -- The number that stands at a place is found, or digits out of form.
 -- The loop keeps: the value read so far, with the digits still ahead behind it, is the number at the place. The measure is what is left of the text.
 use mathlib.Core.Path.{sym, _∙_}
-use Prim.Native.Nat.{_-_, _≤_}
+use Prim.Native.Nat.{_+_, _-_, _≤_}
 use native.Mathlib.Omega.{arith}
 use lib.ListN.{length, getD}
 use borrow.Author.Tests.{not-true, not-false}
 use Rattle.numbers.proofs.Numbers.{Digit, digit-tested}
-use Rattle.numbers.proofs.NumberLoops.{number-past, number-none, Reading, reading-first, reading-end, reading-stop, reading-zero, reading-over, reading-next}
+use Rattle.numbers.proofs.NumberLoops.{number-past, number-none, Reading, reading-first, reading-end, reading-stop, reading-six, reading-over, reading-next}
 use Rattle.numbers.proofs.read_number.Statement.{statement}
 use Rattle.numbers.proofs.read_number.Tie as tie
 
 abbrev Inv-loop : tie.InvT-loop
-Inv-loop text at first value₀ i₀ value i = (i ≤ length text) × (value ≤ 65535) × Reading text at value i
+Inv-loop text at first value₀ i₀ value i = (i ≤ length text) × (value ≤ 65535) × (at ≤ i) × (i ≤ at + 5) × Reading text at value i
 
 abbrev μ-loop : tie.MeasureT-loop
 μ-loop text at first value₀ i₀ value i = length text - i
@@ -39,7 +39,7 @@ returns-2 c =
     sym (number-none (z .text .now) (z .at) (c .before .before .before .if1 .left) (sym (c .before .is-digit .ensures) ∙ not-true (c .before .is-digit .result) (c .if2 .taken)))
 
 sub-value : tie.Need-sub-value Inv-loop μ-loop
-sub-value c = first-digit c .low
+sub-value c = omega (arith, first-digit c)
 
 cast-value : tie.Need-cast-value Inv-loop μ-loop
 cast-value c = omega (arith, first-digit c)
@@ -50,7 +50,7 @@ add-i c = omega arith
 loop-holds : tie.Need-loop-holds Inv-loop μ-loop
 loop-holds c =
     let z = c .before .before .before .before .before .args in
-    (omega arith, omega (arith, first-digit c), reading-first (z .text .now) (z .at) (c .before .before .before .if1 .left) (first-digit c .test))
+    (omega arith, omega (arith, first-digit c), omega arith, omega arith, reading-first (z .text .now) (z .at) (c .before .before .before .if1 .left) (first-digit c .test))
 
 shared-slice-read-b : tie.Need-shared-slice-read-b Inv-loop μ-loop
 shared-slice-read-b c = omega arith
@@ -65,13 +65,16 @@ returns-3 : tie.Need-returns-3 Inv-loop μ-loop
 returns-3 c =
     let z = c .before .before .before .before .before .before .before .before .before .before .args in
     let l = c .before .before .before .before .loop in
-    sym (reading-stop (z .text .now) (z .at) (l .value) (l .i) (l .inv .2) (c .before .before .before .loop-test .taken) (l .inv .1) (sym (c .before .is-digit2 .ensures) ∙ not-true (c .before .is-digit2 .result) (c .if3 .taken)))
+    sym (reading-stop (z .text .now) (z .at) (l .value) (l .i) (l .inv .4) (c .before .before .before .loop-test .taken) (l .inv .1) (l .inv .3) (sym (c .before .is-digit2 .ensures) ∙ not-true (c .before .is-digit2 .result) (c .if3 .taken)))
+
+sub-if4 : tie.Need-sub-if4 Inv-loop μ-loop
+sub-if4 c = omega arith
 
 returns-4 : tie.Need-returns-4 Inv-loop μ-loop
 returns-4 c =
     let z = c .before .before .before .before .before .before .before .before .before .before .before .args in
     let l = c .before .before .before .before .before .loop in
-    sym (reading-zero (z .text .now) (z .at) (l .value) (l .i) (l .inv .2) (c .before .before .before .before .loop-test .taken) (next-digit (c .before) .test) (omega arith))
+    sym (reading-six (z .text .now) (z .at) (l .value) (l .i) (l .inv .4) (c .before .before .before .before .loop-test .taken) (next-digit (c .before) .test) (omega arith))
 
 mul-value : tie.Need-mul-value Inv-loop μ-loop
 mul-value c = omega arith
@@ -89,7 +92,7 @@ returns-5 : tie.Need-returns-5 Inv-loop μ-loop
 returns-5 c =
     let z = c .before .before .before .before .before .before .before .before .before .before .before .before .args in
     let l = c .before .before .before .before .before .before .loop in
-    sym (reading-over (z .text .now) (z .at) (l .value) (l .i) (l .inv .2) (c .before .before .before .before .before .loop-test .taken) (next-digit (c .before .before) .test) (omega arith))
+    sym (reading-over (z .text .now) (z .at) (l .value) (l .i) (l .inv .4) (c .before .before .before .before .before .loop-test .taken) (next-digit (c .before .before) .test) (omega arith))
 
 add-i-2 : tie.Need-add-i-2 Inv-loop μ-loop
 add-i-2 c = omega arith
@@ -101,7 +104,7 @@ loop-again : tie.Need-loop-again Inv-loop μ-loop
 loop-again c =
     let z = c .before .before .before .before .before .before .before .before .before .before .before .before .args in
     let l = c .before .before .before .before .before .before .loop in
-    (omega arith, omega arith, reading-next (z .text .now) (z .at) (l .value) (l .i) (l .inv .2) (c .before .before .before .before .before .loop-test .taken) (next-digit (c .before .before) .test) (c .before .if4 .left))
+    (omega arith, omega arith, omega arith, omega arith, reading-next (z .text .now) (z .at) (l .value) (l .i) (l .inv .4) (c .before .before .before .before .before .loop-test .taken) (next-digit (c .before .before) .test))
 
 cast-t20 : tie.Need-cast-t20 Inv-loop μ-loop
 cast-t20 c = omega arith
@@ -110,7 +113,7 @@ returns-6 : tie.Need-returns-6 Inv-loop μ-loop
 returns-6 c =
     let z = c .before .before .before .before .before .before .before .args in
     let l = c .before .loop in
-    sym (reading-end (z .text .now) (z .at) (l .value) (l .i) (l .inv .2) (l .inv .1) (c .loop-test .left))
+    sym (reading-end (z .text .now) (z .at) (l .value) (l .i) (l .inv .4) (l .inv .1) (l .inv .3) (c .loop-test .left))
 
 pub read-number-spec : {M : Type 1} → statement M
 read-number-spec =
@@ -130,6 +133,7 @@ read-number-spec =
     is-digit-requires-2
     cast-t17
     returns-3
+    sub-if4
     returns-4
     mul-value
     sub-value-2

@@ -1,0 +1,30 @@
+-- What is claimed of texts that differ in padding (document 02, item 2), as types; proofs/Padding and proofs/Plain have the theorems.
+-- `walk_text` promises `reportOf`: its number, the bytes that it prints and every lent area, of any text on any areas.
+use mathlib.Core.Path.{_≡_}
+use mathlib.Core.Bool.{false}
+use mathlib.Core.List.{List}
+use Prim.Native.Nat.{ℕ}
+use lib.ListN.{length, take}
+use Rattle.graphs.specs.Refusals.{textOut}
+use Rattle.numbers.specs.Padding.{hasPadding, unpad}
+use Rattle.texts.specs.Text.{listingOf}
+use Rattle.report.specs.Report.{Told, reportOf}
+
+-- Two texts get the same number, print the same bytes and leave every area alike, on any areas.
+abbrev pub Alike : List ℕ → List ℕ → Type 0
+Alike s t = (after tail marks events output : List ℕ) → reportOf s after tail marks events output ≡ reportOf t after tail marks events output
+
+-- Where both are over 65,536 bytes or none is, two texts of one profile are alike, and so are two texts that differ in padding only, be they in
+-- form or not. Where one of these is walked, none is over.
+pub record PrintAlikeClaim : Type 0 where
+  pub one-profile : (s t : List ℕ) → textOut (length s) ≡ textOut (length t) → listingOf s ≡ listingOf t → Alike s t
+  pub padding-only : (s t : List ℕ) → textOut (length s) ≡ textOut (length t) → unpad s ≡ unpad t → Alike s t
+  pub where-walked : (s t after tail marks events output : List ℕ) → unpad s ≡ unpad t → reportOf s after tail marks events output .number ≡ 0 → Alike s t
+
+-- The bytes printed.
+abbrev pub printed : Told → List ℕ
+printed t = take (t .bytes) (t .output)
+
+-- They have no padding, of any text on any areas.
+abbrev pub PlainClaim : Type 0
+PlainClaim = (text after tail marks events output : List ℕ) → hasPadding (printed (reportOf text after tail marks events output)) ≡ false
