@@ -116,7 +116,8 @@ uint16_t profile_walker_check_image(uint16_t n, uint16_t m,
 
 /*
  * Reads a profile's text into the areas of a linked image: n+m after words and m tail words, by the n and m of
- * the text; 5,000 and 4,000 serve every text. *n, *m and *start are set where the text is taken.
+ * the text; 5,000 and 4,000 serve every text. A number in the text may have zeros before it, up to five digits in
+ * all. *n, *m and *start are set where the text is taken.
  * 13, 12, 1, 2, 3, 4, 6.
  */
 uint16_t profile_walker_read_profile(const uint8_t *text, size_t text_bytes,

@@ -24,7 +24,8 @@ pub fn check_image(n: u16, m: u16, after: &[u16], tail: &[u16]) -> Result<(), Re
     })
 }
 
-/// Reads a profile's text into the areas of a linked image, and sets `n`, `m` and `start`.
+/// Reads a profile's text into the areas of a linked image, and sets `n`, `m` and `start`. A number in the text may
+/// have zeros before it, up to five digits in all.
 ///
 /// Areas, by the n and m of the text: n+m after words, m tail words. Numbers: 13, 12, 1, 2, 3, 4, 6.
 pub fn read_profile(

@@ -35,7 +35,8 @@ pub struct Profile {
     pub start: u16,
 }
 
-/// Reads a profile's text into the areas of a linked image.
+/// Reads a profile's text into the areas of a linked image. A number in the text may have zeros before it, up to five
+/// digits in all.
 ///
 /// Areas, by the n and m of the text: n+m after words, m tail words; 5,000 and 4,000 serve every text.
 /// Numbers: 13, 12, 1, 2, 3, 4, 6.

@@ -48,10 +48,12 @@ fn numbers<const COUNT: usize>(line: &str) -> Option<[u16; COUNT]> {
     values?.try_into().ok()
 }
 
-/// A number is in its form where it is what its value would be written as.
+/// A number is in its form where it is what its value would be written as in so many places, zeros in front filling
+/// them; there are at most five.
 fn number(word: &str) -> Option<u16> {
     let value: u16 = word.parse().ok()?;
-    (value.to_string() == word).then_some(value)
+    let places = word.len();
+    (places <= 5 && format!("{value:0places$}") == word).then_some(value)
 }
 
 /// The profile and start of a text, `short` saying which sizes the lent areas are too short for: 13, 12, 1, 2, 3, 4, 6.

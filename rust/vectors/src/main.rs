@@ -6,6 +6,8 @@ mod refused;
 mod scripts;
 mod walks;
 
+use profiles::Profile;
+use std::collections::BTreeMap;
 use std::fs;
 use std::io::Result;
 use std::path::Path;
@@ -16,54 +18,49 @@ fn write(folder: &Path, part: &str, name: &str, text: &str) -> Result<()> {
     fs::write(folder.join(format!("{name}.csv")), text)
 }
 
+/// The answers for a profile, each with its folder: whole walks for every profile, scripts for the small ones.
+fn answers(profile: &Profile) -> Vec<(&'static str, String)> {
+    let nodes = profile.after.len();
+    let (breadth, areas) = walks::breadth_first_and_areas(profile);
+    let mut answers = vec![
+        ("depth", walks::depth_first(profile)),
+        ("breadth", breadth),
+        ("areas", areas),
+        ("array", walks::array_form(profile)),
+    ];
+    if nodes <= 70 {
+        answers.extend([
+            ("scripts/move_by_move", scripts::move_by_move(profile)),
+            ("scripts/whole", scripts::whole(profile)),
+        ]);
+    }
+    if nodes <= 13 {
+        answers.extend([
+            ("scripts/wound_back", scripts::wound_back(profile)),
+            ("scripts/turned_back", scripts::turned_back(profile)),
+            ("scripts/out_of_kind", scripts::out_of_kind(profile)),
+        ]);
+    }
+    answers
+}
+
 fn main() -> Result<()> {
     let folder = std::env::args().nth(1).expect("usage: vectors FOLDER");
     let folder = Path::new(&folder);
-    let small = profiles::small();
-    let largest = profiles::largest();
-    for profile in small.iter().chain([&largest]) {
-        let (breadth, areas) = walks::breadth_first_and_areas(profile);
+    let profiles = profiles::all();
+    let mut written = BTreeMap::new();
+    for profile in &profiles {
         write(folder, "profiles", profile.name, &profile.text)?;
-        write(folder, "depth", profile.name, &walks::depth_first(profile))?;
-        write(folder, "breadth", profile.name, &breadth)?;
-        write(folder, "areas", profile.name, &areas)?;
-        write(folder, "array", profile.name, &walks::array_form(profile))?;
+        let answers = answers(profile);
+        for (part, text) in &answers {
+            write(folder, part, profile.name, text)?;
+        }
+        written.insert(profile.name, answers);
     }
-    for profile in &small {
-        write(
-            folder,
-            "scripts/move_by_move",
-            profile.name,
-            &scripts::move_by_move(profile),
-        )?;
-        write(
-            folder,
-            "scripts/whole",
-            profile.name,
-            &scripts::whole(profile),
-        )?;
-    }
-    for profile in small.iter().filter(|profile| profile.after.len() <= 13) {
-        write(
-            folder,
-            "scripts/wound_back",
-            profile.name,
-            &scripts::wound_back(profile),
-        )?;
-        write(
-            folder,
-            "scripts/turned_back",
-            profile.name,
-            &scripts::turned_back(profile),
-        )?;
-        write(
-            folder,
-            "scripts/out_of_kind",
-            profile.name,
-            &scripts::out_of_kind(profile),
-        )?;
-    }
-    write(folder, "scripts", "panel", &scripts::panel(&small[0]))?;
+    // Zeros before the numbers of a text change no answer.
+    assert!(written["padded"] == written["printed"]);
+    assert!(written["mixed"] == written["start"]);
+    write(folder, "scripts", "panel", &scripts::panel(&profiles[0]))?;
     for (name, text) in refused::texts() {
         write(folder, "refused/texts", name, &text)?;
     }

@@ -14,12 +14,28 @@ pub struct Profile {
 
 impl Profile {
     fn new(name: &'static str, n: u16, start: u16, lines: &[(u16, u16)]) -> Self {
-        let mut text = format!(
-            "elements,references,start\n{n},{},{start}\nfrom,to\n",
-            lines.len()
-        );
-        for (from, to) in lines {
-            text.push_str(&format!("{from},{to}\n"));
+        Profile::padded(name, n, start, lines, &[1])
+    }
+
+    /// A profile whose text has zeros before its numbers, for at least so many digits. The widths take turns.
+    fn padded(
+        name: &'static str,
+        n: u16,
+        start: u16,
+        lines: &[(u16, u16)],
+        widths: &[usize],
+    ) -> Self {
+        let mut widths = widths.iter().cycle();
+        let mut row = |values: &[u16]| {
+            let numbers = values.iter().zip(&mut widths);
+            let words: Vec<_> = numbers.map(|(x, &width)| format!("{x:0width$}")).collect();
+            words.join(",") + "\n"
+        };
+        let mut text = String::from("elements,references,start\n");
+        text += &row(&[n, lines.len() as u16, start]);
+        text += "from,to\n";
+        for &(from, to) in lines {
+            text += &row(&[from, to]);
         }
         let mut after = vec![0; usize::from(n) + lines.len()];
         let mut tail = vec![0; lines.len()];
@@ -60,13 +76,16 @@ fn drawn(n: u16, m: u16) -> Vec<(u16, u16)> {
     lines
 }
 
-/// The small profiles; each of them is walked in every way.
-pub fn small() -> Vec<Profile> {
+/// The profiles: small ones, which are walked in every way, and the largest.
+pub fn all() -> Vec<Profile> {
     let chain: Vec<_> = (1..10).map(|u| (u, u + 1)).collect();
     let star: Vec<_> = (2..=10).chain(2..=10).map(|x| (1, x)).collect();
     let dense: Vec<_> = (1..=6).flat_map(|u| (1..=6).map(move |x| (u, x))).collect();
+    let printed = [(1, 2), (1, 3), (2, 3), (3, 1)];
+    let start = [(4, 2), (3, 4), (1, 3), (2, 3), (3, 2), (4, 4)];
     vec![
-        Profile::new("printed", 3, 1, &[(1, 2), (1, 3), (2, 3), (3, 1)]),
+        Profile::new("printed", 3, 1, &printed),
+        Profile::padded("padded", 3, 1, &printed, &[5]),
         Profile::new("one", 1, 1, &[]),
         Profile::new("loop", 1, 1, &[(1, 1)]),
         Profile::new("unreached", 2, 1, &[(1, 1)]),
@@ -78,20 +97,12 @@ pub fn small() -> Vec<Profile> {
             &[(1, 2), (1, 3), (2, 4), (3, 4), (3, 5), (4, 5)],
         ),
         Profile::new("circle", 4, 1, &[(1, 2), (2, 3), (3, 4), (4, 1)]),
-        Profile::new(
-            "start",
-            4,
-            3,
-            &[(4, 2), (3, 4), (1, 3), (2, 3), (3, 2), (4, 4)],
-        ),
+        Profile::new("start", 4, 3, &start),
+        Profile::padded("mixed", 4, 3, &start, &[1, 2, 3, 4, 5]),
         Profile::new("chain", 10, 1, &chain),
         Profile::new("star", 10, 1, &star),
         Profile::new("dense", 6, 1, &dense),
         Profile::new("drawn", 20, 1, &drawn(20, 50)),
+        Profile::new("largest", 1000, 1, &drawn(1000, 4000)),
     ]
-}
-
-/// The largest profile.
-pub fn largest() -> Profile {
-    Profile::new("largest", 1000, 1, &drawn(1000, 4000))
 }

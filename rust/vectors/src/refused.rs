@@ -9,6 +9,11 @@ pub fn texts() -> Vec<(&'static str, String)> {
     let lines = |n: u32, m: u32, start: u32, lines: &str| {
         format!("{head}{n},{m},{start}\nfrom,to\n{lines}")
     };
+    // Too many references, with numbers of three digits and more: 65,536 bytes for an n of four digits.
+    let in_three = |n: &str| {
+        let lines = "001,001\n".repeat(8186);
+        format!("{head}{n},8186,001\nfrom,to\n{lines}")
+    };
     vec![
         ("no_element", lines(0, 0, 0, "")),
         ("elements_1001", lines(1001, 0, 1, "")),
@@ -19,13 +24,16 @@ pub fn texts() -> Vec<(&'static str, String)> {
         ("to_0", lines(2, 1, 1, "1,0\n")),
         ("line_missing", lines(2, 2, 1, "1,2\n")),
         ("line_too_many", lines(2, 1, 1, "1,2\n2,1\n")),
-        ("leading_zero", lines(2, 1, 1, "01,2\n")),
+        ("six_digits", lines(2, 1, 1, "000001,2\n")),
         ("number_65536", lines(2, 1, 1, "65536,2\n")),
+        ("five_digits_99999", lines(2, 1, 1, "99999,2\n")),
         ("semicolon", lines(2, 1, 1, "1;2\n")),
         ("no_last_line_feed", lines(2, 1, 1, "1,2")),
         ("names_of_lines", format!("{head}2,1,1\nfrom;to\n1,2\n")),
         ("empty", String::new()),
         ("bytes_65537", lines(1, 0, 1, &" ".repeat(65_537 - 40))),
+        ("padded_65536", in_three("1000")),
+        ("padded_65537", in_three("10000")),
     ]
 }
 

@@ -15,11 +15,11 @@ impl Text<'_> {
         Some(())
     }
 
-    /// A number with no leading zero, at most 65,535, and the byte behind it.
+    /// A number of one to five digits, at most 65,535, and the byte behind it.
     fn number(&mut self, stop: u8) -> Option<u16> {
         let digits = self.0.iter().take_while(|b| b.is_ascii_digit()).count();
         let (number, rest) = self.0.split_at(digits);
-        if digits == 0 || digits > 5 || (digits > 1 && number[0] == b'0') {
+        if digits == 0 || digits > 5 {
             return None;
         }
         self.0 = rest.strip_prefix(&[stop])?;

@@ -11,6 +11,7 @@ mod jams;
 mod lent;
 mod lists;
 mod orders;
+mod padding;
 mod panel;
 mod profiles;
 mod rng;
