@@ -2,8 +2,8 @@
 -- By computation on the definitions.
 use mathlib.Core.Path.{refl}
 use Rattle.numbers.specs.Decimal.{numberAt}
-use Rattle.numbers.specs.Claims.{examples, Said}
+use Rattle.numbers.specs.Examples.{examples, Said}
 
 pub examples-said : Said examples
 unfolding numberAt
-examples-said = (refl, (refl, (refl, (refl, (refl, (refl, (refl, (refl, (refl, tt)))))))))
+examples-said = (refl, (refl, (refl, (refl, (refl, (refl, (refl, (refl, (refl, (refl, tt))))))))))

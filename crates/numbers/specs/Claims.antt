@@ -1,10 +1,10 @@
--- What is claimed of numbers and of padding, as types; proofs/Numbers, proofs/Padding and proofs/Examples have the theorems. Callers rest on
--- these and on no definition of a number.
+-- What is claimed of numbers and of padding, as types; proofs/Numbers and proofs/Padding have the theorems. Callers rest on these and on no
+-- definition of a number.
 use mathlib.Core.Path.{_≡_}
 use mathlib.Core.Logic.{_↔_}
 use mathlib.Core.Bool.{true, false, _||_}
 use mathlib.Core.List.{List, [], _∷_, _++_}
-use mathlib.Core.Option.{Option, none, some}
+use mathlib.Core.Option.{none, some}
 use Prim.Native.Nat.{ℕ, _+_, _≤_, _<_}
 use lib.ListN.{length, drop}
 use Rattle.numbers.specs.Decimal.{written, isDigit, digitsAhead, valueAfter, Field, numberAt}
@@ -29,16 +29,16 @@ pub record NumberClaim : Type 0 where
   pub too-large : (text : List ℕ) (at : ℕ) → 65535 < valueAfter 0 (digitsAhead (drop at text)) → numberAt text at ≡ none
 
 -- ---- padding
--- What is written of a number has no padding; behind zeros it has. Nothing has none, and two texts with a byte between them that is no digit have
--- padding where either has.
+-- What is written of a number has no padding; behind zeros it has. The empty text has none, and two texts with a byte between them that is no
+-- digit have padding where either has.
 pub record PaddingClaim : Type 0 where
   pub no-padding : (x : ℕ) → x ≤ 65535 → hasPadding (written x) ≡ false
   pub padding : (x z : ℕ) → x ≤ 65535 → 0 < z → hasPadding (padded z x) ≡ true
   pub nothing : hasPadding [] ≡ false
   pub byte : (front : List ℕ) (b : ℕ) (rest : List ℕ) → isDigit b ≡ false → hasPadding (front ++ (b ∷ rest)) ≡ (hasPadding front || hasPadding rest)
 
--- Taking padding off: a number becomes what is written of it, digits that are none stay, and two texts with a byte between them that is no digit
--- lose theirs each by itself. A text that has none stays as it is. So padding one number, wherever it stands, gives a text that differs in
+-- Taking padding off: a number becomes what is written of it, digits that are no number stay, and two texts with a byte between them that is no
+-- digit lose theirs each by itself. A text that has none stays as it is. Padding one number, wherever it stands, gives a text that differs in
 -- padding only.
 pub record UnpadClaim : Type 0 where
   pub number : (x z : ℕ) (rest : List ℕ) → x ≤ 65535 → length (padded z x) ≤ 5 → digitsAhead rest ≡ [] → unpad (padded z x ++ rest) ≡ written x ++ unpad rest
@@ -63,34 +63,3 @@ pub record ReadingClaim : Type 0 where
   pub was-read : (text : List ℕ) (at : ℕ) (f : Field) → numberAt text at ≡ some f → unpad (drop at text) ≡ written (f .value) ++ unpad (drop (f .next) text)
   pub byte-was : (b : ℕ) (text rest : List ℕ) → isDigit b ≡ false → unpad text ≡ b ∷ rest → (text ≡ b ∷ drop 1 text) × (unpad (drop 1 text) ≡ rest)
   pub end-was : (text : List ℕ) → unpad text ≡ [] → text ≡ []
-
--- ---- examples
--- A text, and the number at its first place, or none.
-pub record Example : Type 0 where
-  pub text : List ℕ
-  pub says : Option Field
-
-abbrev example : List ℕ → Option Field → Example
-example text says = record { text = text; says = says }
-
-abbrev value : ℕ → ℕ → Option Field
-value x next = some (record { value = x; next = next })
-
--- `00000`, `00012`, `12`, `65535`; `000012`, `065535`, `65536`, `99999`, and no digit at all.
-abbrev pub examples : List Example
-examples =
-    example (48 ∷ 48 ∷ 48 ∷ 48 ∷ 48 ∷ []) (value 0 5)
-    ∷ example (48 ∷ 48 ∷ 48 ∷ 49 ∷ 50 ∷ []) (value 12 5)
-    ∷ example (49 ∷ 50 ∷ []) (value 12 2)
-    ∷ example (54 ∷ 53 ∷ 53 ∷ 51 ∷ 53 ∷ []) (value 65535 5)
-    ∷ example (48 ∷ 48 ∷ 48 ∷ 48 ∷ 49 ∷ 50 ∷ []) none
-    ∷ example (48 ∷ 54 ∷ 53 ∷ 53 ∷ 51 ∷ 53 ∷ []) none
-    ∷ example (54 ∷ 53 ∷ 53 ∷ 51 ∷ 54 ∷ []) none
-    ∷ example (57 ∷ 57 ∷ 57 ∷ 57 ∷ 57 ∷ []) none
-    ∷ example [] none
-    ∷ []
-
--- Each says what it is to say.
-abbrev pub Said : List Example → Type 0
-Said [] = Unit {0}
-Said (e ∷ es) = (numberAt (e .text) 0 ≡ e .says) × Said es
