@@ -23,15 +23,20 @@ each-onto P (x ∷ h) i p q = each-onto P h (x ∷ i) (p .1) (p .0, q)
 pub each-reverse : (P : Event → Type 0) (h : List Event) → Each P h → Each P (reverse h)
 each-reverse P h p = each-onto P h [] p tt
 
-module _ {G : Graph} (closed : Closed G) (before : List ℕ) (P : Event → Type 0) (of-vertex : (k : Kind) (u : ℕ) → Vertex (G .size) u → P (event k 0 u)) (of-edge : (k : Kind) (r u : ℕ) → Vertex (G .size) u → Mem r (G .out u) → P (event k r u)) where
+-- P of every event that names a vertex, and null or an edge on its list.
+pub record Naming (G : Graph) (P : Event → Type 0) : Type 0 where
+  pub of-vertex : (k : Kind) (u : ℕ) → Vertex (G .size) u → P (event k 0 u)
+  pub of-edge : (k : Kind) (r u : ℕ) → Vertex (G .size) u → Mem r (G .out u) → P (event k r u)
+
+module _ {G : Graph} (closed : Closed G) (before : List ℕ) (P : Event → Type 0) (N : Naming G P) where
   -- Searching any vertex keeps it.
   abbrev Keeps : ℕ → Type 0
   Keeps k = (u : ℕ) (h : History) → Vertex (G .size) u → Each P h → Each P (search (recorder before) G k u h)
 
   module _ (k : ℕ) (s : Keeps k) (u : ℕ) (hu : Vertex (G .size) u) where
     cross-each : (r : ℕ) → Mem r (G .out u) → (b : Bool) (h : History) → Each P h → Each P (cross (recorder before) G (search (recorder before) G k) u r b h)
-    cross-each r m true h e = (of-edge retreat-nontree r u hu m, (of-edge advance-nontree r u hu m, e))
-    cross-each r m false h e = (of-edge retreat-tree r u hu m, s (G .to r) (h ▸ event advance-tree r u) (closed u r hu m) (of-edge advance-tree r u hu m, e))
+    cross-each r m true h e = (N .of-edge retreat-nontree r u hu m, (N .of-edge advance-nontree r u hu m, e))
+    cross-each r m false h e = (N .of-edge retreat-tree r u hu m, s (G .to r) (h ▸ event advance-tree r u) (closed u r hu m) (N .of-edge advance-tree r u hu m, e))
 
     walk-each : (rs : List ℕ) → ((r : ℕ) → Mem r rs → Mem r (G .out u)) → (h : History) → Each P h → Each P (walkEdges (recorder before) G (search (recorder before) G k) u rs h)
     unfolding walkEdges
@@ -41,7 +46,7 @@ module _ {G : Graph} (closed : Closed G) (before : List ℕ) (P : Event → Type
   search-each : (k : ℕ) → Keeps k
   unfolding search
   search-each zero u h hu e = e
-  search-each (suc k) u h hu e = (of-vertex scan u hu, walk-each k (search-each k) u hu (G .out u) (λ r m. m) (h ▸ event label 0 u) (of-vertex label u hu, e))
+  search-each (suc k) u h hu e = (N .of-vertex scan u hu, walk-each k (search-each k) u hu (G .out u) (λ r m. m) (h ▸ event label 0 u) (N .of-vertex label u hu, e))
 
   pub depth-each : (start : ℕ) → Vertex (G .size) start → Each P (depthFirst G before start)
   unfolding depthFirst

@@ -3,7 +3,7 @@
 use mathlib.Core.Path.{_≡_, refl, sym, ap, _∙_, subst}
 use mathlib.Core.Bool.{Bool, true, false, cond, not, _&&_, _||_, and-true, and-false, or-false, or-assoc}
 use mathlib.Core.List.{List, [], _∷_, _++_, append-assoc, append-nil}
-use mathlib.Core.Option.{Option, none, some}
+use mathlib.Core.Option.{none, some, Option·none-ne-some}
 use Prim.Native.Nat.{ℕ, zero, suc, _+_, _≤_, _<_}
 use native.Mathlib.Omega.{arith}
 use lib.Dec.{eqb}
@@ -151,22 +151,23 @@ number x z rest h few e =
     ∙ (λ i. p i ++ unpad (drop-append-seam (padded z x) rest i))
 
 no-number : (text : List ℕ) → numberAt text 0 ≡ none → unpad text ≡ digitsAhead text ++ unpad (behind text)
-unfolding numberAt
-no-number text h = go (inForm (digitsAhead text)) refl h
+no-number text h = go (inForm (digitsAhead text)) refl
   where
-    go : (t : Bool) → inForm (digitsAhead text) ≡ t → cond {A = Option Field} t (some (record { value = valueAfter 0 (digitsAhead text); next = 0 + length (digitsAhead text) })) none ≡ none → unpad text ≡ digitsAhead text ++ unpad (behind text)
-    go true e h = absurd (let z : _≡_ {A = ℕ} 0 1 = cc in omega arith)
-    go false e h = digits-first text ∙ ap (λ (ds : List ℕ). ds ++ unpad (behind text)) (plain-other (digitsAhead text) e)
+    go : (t : Bool) → inForm (digitsAhead text) ≡ t → unpad text ≡ digitsAhead text ++ unpad (behind text)
+    go true e = absurd (Option·none-ne-some _ (sym h ∙ number-here text 0 (digitsAhead text) refl e))
+    go false e = digits-first text ∙ ap (λ (ds : List ℕ). ds ++ unpad (behind text)) (plain-other (digitsAhead text) e)
 
 -- What stands in front of a byte that is no digit is taken by itself.
-byte-from : (ds front : List ℕ) (b : ℕ) (rest : List ℕ) → isDigit b ≡ false → unpadFrom ds (front ++ (b ∷ rest)) ≡ unpadFrom ds front ++ (b ∷ unpadFrom [] rest)
+abbrev Apart : List ℕ → List ℕ → ℕ → List ℕ → Type 0
+Apart ds front b rest = unpadFrom ds (front ++ (b ∷ rest)) ≡ unpadFrom ds front ++ (b ∷ unpadFrom [] rest)
+
+byte-from : (ds front : List ℕ) (b : ℕ) (rest : List ℕ) → isDigit b ≡ false → Apart ds front b rest
 byte-from ds [] b rest e = rw e
-byte-from ds (c ∷ front) b rest e = go (isDigit c) (byte-from (ds ++ (c ∷ [])) front b rest e) (byte-from [] front b rest e)
+byte-from ds (c ∷ front) b rest e = go (isDigit c) refl (byte-from (ds ++ (c ∷ [])) front b rest e) (byte-from [] front b rest e)
   where
-    go : (t : Bool) → unpadFrom (ds ++ (c ∷ [])) (front ++ (b ∷ rest)) ≡ unpadFrom (ds ++ (c ∷ [])) front ++ (b ∷ unpadFrom [] rest) → unpadFrom [] (front ++ (b ∷ rest)) ≡ unpadFrom [] front ++ (b ∷ unpadFrom [] rest)
-        → cond t (unpadFrom (ds ++ (c ∷ [])) (front ++ (b ∷ rest))) (plain ds ++ (c ∷ unpadFrom [] (front ++ (b ∷ rest)))) ≡ cond t (unpadFrom (ds ++ (c ∷ [])) front) (plain ds ++ (c ∷ unpadFrom [] front)) ++ (b ∷ unpadFrom [] rest)
-    go true on anew = on
-    go false on anew = ap (λ (l : List ℕ). plain ds ++ (c ∷ l)) anew ∙ sym (append-assoc (plain ds) (c ∷ unpadFrom [] front) (b ∷ unpadFrom [] rest))
+    go : (t : Bool) → isDigit c ≡ t → Apart (ds ++ (c ∷ [])) front b rest → Apart [] front b rest → Apart ds (c ∷ front) b rest
+    go true t on anew = rw t on
+    go false t on anew = rw t (ap (λ (l : List ℕ). plain ds ++ (c ∷ l)) anew ∙ sym (append-assoc (plain ds) (c ∷ unpadFrom [] front) (b ∷ unpadFrom [] rest)))
 
 byte : (front : List ℕ) (b : ℕ) (rest : List ℕ) → isDigit b ≡ false → unpad (front ++ (b ∷ rest)) ≡ unpad front ++ (b ∷ unpad rest)
 unfolding unpad
@@ -255,15 +256,18 @@ plain-kept (d ∷ ds) p h = go (inForm (d ∷ ds)) refl
     go true e = written-again (d ∷ ds) p (none-padding d ds p h) (form-bounds (d ∷ ds) e .2)
     go false e = refl
 
-kept-from : (ds l : List ℕ) → AllDigits ds → hasPadding (ds ++ l) ≡ false → unpadFrom ds l ≡ ds ++ l
+abbrev Kept : List ℕ → List ℕ → Type 0
+Kept ds l = unpadFrom ds l ≡ ds ++ l
+
+kept-from : (ds l : List ℕ) → AllDigits ds → hasPadding (ds ++ l) ≡ false → Kept ds l
 kept-from ds [] p h = plain-kept ds p (ap hasPadding (sym (append-nil ds)) ∙ h) ∙ sym (append-nil ds)
 kept-from ds (b ∷ l) p h = go (isDigit b) refl (λ q. kept-from (ds ++ (b ∷ [])) l q (ap hasPadding (append-snoc ds b l) ∙ h)) (λ q. kept-from [] l tt q)
   where
-    go : (t : Bool) → isDigit b ≡ t → (AllDigits (ds ++ (b ∷ [])) → unpadFrom (ds ++ (b ∷ [])) l ≡ (ds ++ (b ∷ [])) ++ l) → (hasPadding l ≡ false → unpadFrom [] l ≡ l) → cond t (unpadFrom (ds ++ (b ∷ [])) l) (plain ds ++ (b ∷ unpadFrom [] l)) ≡ ds ++ (b ∷ l)
-    go true e on anew = on (all-append ds (b ∷ []) p (digit-tested b e, tt)) ∙ append-snoc ds b l
+    go : (t : Bool) → isDigit b ≡ t → (AllDigits (ds ++ (b ∷ [])) → Kept (ds ++ (b ∷ [])) l) → (hasPadding l ≡ false → Kept [] l) → Kept ds (b ∷ l)
+    go true e on anew = rw e (on (all-append ds (b ∷ []) p (digit-tested b e, tt)) ∙ append-snoc ds b l)
     go false e on anew =
         let n = neither (hasPadding ds) (hasPadding l) (sym (padding-byte ds b l e) ∙ h) in
-        λ i. plain-kept ds p (n .0) i ++ (b ∷ anew (n .1) i)
+        rw e (λ i. plain-kept ds p (n .0) i ++ (b ∷ anew (n .1) i))
 
 kept : (text : List ℕ) → hasPadding text ≡ false → unpad text ≡ text
 unfolding unpad

@@ -17,7 +17,7 @@ use Rattle.graphs.specs.Refusals.{refuse, firstOf, Lent, verticesOut, edgesOut,
 use Rattle.graphs.proofs.Labels.{labels-few, reached-labels}
 use Rattle.graphs.proofs.Sound.{graph-closed}
 use Rattle.graphs.proofs.Owned.{met-most, image-owned}
-use Rattle.graphs.proofs.Named.{Each, each-reverse, depth-each}
+use Rattle.graphs.proofs.Named.{Each, each-reverse, Naming, depth-each}
 use Rattle.graphs.proofs.Depth.{depth-first}
 use Rattle.graphs.proofs.Room.{profile-ready}
 use Rattle.folding.specs.Claims.{flag, circularOf}
@@ -71,11 +71,12 @@ module _ (text after tail marks events : List ℕ) (p : Listing) (e : reading te
   events-fit =
       let S = P text after tail marks events p e marks-long events-long in
       let few = F text after tail marks events p e marks-long events-long in
-      depth-each (graph-closed (imageIn p after tail) (S .sound)) [] FitEvent
-      (λ k u v. (code-small k, (omega arith, (omega (arith, v, few .few-vertices), tt))))
-      (λ k r u v m. (code-small k, (omega (arith, S .sound .edge u r v m, few .few-vertices, few .few-edges), (omega (arith, v, few .few-vertices), tt))))
-      (p .start)
-      (S .start-vertex)
+      let names : Naming (graphOf (imageIn p after tail)) FitEvent =
+      record {
+        of-vertex = λ k u v. (code-small k, (omega arith, (omega (arith, v, few .few-vertices), tt)));
+        of-edge = λ k r u v m. (code-small k, (omega (arith, S .sound .edge u r v m, few .few-vertices, few .few-edges), (omega (arith, v, few .few-vertices), tt)));
+      } in
+      depth-each (graph-closed (imageIn p after tail) (S .sound)) [] FitEvent names (p .start) (S .start-vertex)
 
   totals-fit : Fit (totalsOf (graphFrom p) h)
   totals-fit =
@@ -148,4 +149,5 @@ print-plain text after tail marks events output = go (walkReading areas text) re
         let short-none = taken areas text (ap numberTo e) .long in
         let l = long-areas after tail marks events output short-none in
         let ws = walkPrinted (graphFrom p) (p .start) in
-        ap hasPadding (take-append-seam ws (drop (length ws) output)) ∙ walk-plain text after tail marks events p (reading-long text after tail marks events output short-none ∙ e) (l .marks-long) (l .events-long)
+        let read = reading-long text after tail marks events output short-none ∙ e in
+        ap hasPadding (take-append-seam ws (drop (length ws) output)) ∙ walk-plain text after tail marks events p read (l .marks-long) (l .events-long)
