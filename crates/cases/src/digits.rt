@@ -1,4 +1,4 @@
-// Numbers of the text: written and read back, all of them; at places without room; and digits out of form.
+// Numbers of the text: written and read back, all of them; at places without room; and digits in form and not.
 use crate::areas::Text;
 use crate::areas::between;
 use crate::areas::byte_at;
@@ -171,7 +171,7 @@ pub(crate) fn room_case(text: &mut Text, seed: u64) -> Outcome {
     )
 }
 
-// Bytes by chance: mostly digits, else what stands next to the digits, in a text or in no text.
+// Bytes by chance: mostly digits, many of them zeros, else what stands next to the digits, in a text or in no text.
 fn draw_digits(text: &mut Text, top: usize, seed: u64) {
     let mut i: usize = 0;
     while i < top {
@@ -181,7 +181,7 @@ fn draw_digits(text: &mut Text, top: usize, seed: u64) {
             pick(
                 seed,
                 i as u64 % 8192 + 100,
-                b"0123456789123456789123456789465535/:,\n -+\x00\xff",
+                b"0000000000000000123456789123456789465535/:,\n -+\x00\xff",
             ),
         );
         i += 1;
@@ -201,10 +201,41 @@ fn read(text: &[u8], at: usize) -> Outcome {
     also(if a == 0 { 12 } else { 0 }, a != take_number(text, at))
 }
 
+// The case of digits that are written down, with what is to be found at their first.
+fn read_as(digits: &[u8], said: u64) -> Outcome {
+    also(read(digits, 0), read_number(digits, 0) != said)
+}
+
+// One to five digits, with zeros in front and without, up to 65,535; more, and six digits; a byte behind that is no digit.
+fn row_case(i: usize) -> Outcome {
+    match i {
+        0 => read_as(b"00000", found(0, 5)),
+        1 => read_as(b"00012", found(12, 5)),
+        2 => read_as(b"00001", found(1, 5)),
+        3 => read_as(b"65535", found(65535, 5)),
+        4 => read_as(b"065535", 0),
+        5 => read_as(b"65536", 0),
+        6 => read_as(b"99999", 0),
+        7 => read_as(b"000000", 0),
+        8 => read_as(b"000012", 0),
+        9 => read_as(b"0", found(0, 1)),
+        10 => read_as(b"00000,", found(0, 5)),
+        _ => read_as(b"12a", found(12, 2)),
+    }
+}
+
 // A number read from digits by chance.
-pub(crate) fn digits_case(text: &mut Text, seed: u64) -> Outcome {
+fn drawn_case(text: &mut Text, seed: u64) -> Outcome {
     let at = draw(seed, 68, 12) as usize;
     draw_digits(text, ROOM, seed);
     draw_near_limit(text, at, seed);
     read(first_bytes(text, draw(seed, 69, 17) as usize), at)
+}
+
+// The rows, then digits by chance.
+pub(crate) fn digits_case(text: &mut Text, i: usize) -> Outcome {
+    if i < 12 {
+        return row_case(i);
+    }
+    drawn_case(text, i as u64 - 12)
 }

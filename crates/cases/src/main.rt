@@ -10,6 +10,7 @@ mod image;
 mod limits;
 mod listing;
 mod nodes;
+mod padded;
 mod printed;
 mod profiles;
 mod queries;
@@ -64,7 +65,7 @@ fn number_case(text: &mut Text, group: u16, i: usize) -> Outcome {
     match group {
         12 => digits::value_case(text, i),
         13 => digits::room_case(text, i as u64),
-        14 => digits::digits_case(text, i as u64),
+        14 => digits::digits_case(text, i),
         15 => nodes::vertex_case(i as u64),
         _ => nodes::link_case(i as u64),
     }
@@ -74,6 +75,7 @@ fn number_case(text: &mut Text, group: u16, i: usize) -> Outcome {
 fn walk_case(d: &mut Desk, text: &mut Text, group: u16, i: usize) -> Outcome {
     match group {
         17 => walk_rows::case(d, text, i),
+        20 => padded::case(d, text, i),
         _ => walked::drawn_case(d, text, i as u64, group != 18),
     }
 }
@@ -123,7 +125,7 @@ fn print_arrays() {
 }
 
 fn print_texts() {
-    print(b"read_profile: examples and limits", 9, 49);
+    print(b"read_profile: examples and limits", 9, 64);
     print(b"read_profile: texts in form", 10, 2000);
     print(b"read_profile: damaged texts", 11, 6000);
 }
@@ -131,15 +133,16 @@ fn print_texts() {
 fn print_numbers() {
     print(b"write_number and read_number: every number", 12, 65536);
     print(b"write_number: with and without room", 13, 4000);
-    print(b"read_number: in form and not", 14, 4000);
+    print(b"read_number: in form and not", 14, 4012);
     print(b"is_vertex", 15, 4000);
     print(b"is_link", 16, 4000);
 }
 
 fn print_walks() {
-    print(b"walk_text: examples and limits", 17, 96);
+    print(b"walk_text: examples and limits", 17, 112);
     print(b"walk_text: texts in form", 18, 2000);
     print(b"walk_text: damaged texts", 19, 4000);
+    print(b"walk_text: padded and not", 20, 602);
 }
 
 fn main() {

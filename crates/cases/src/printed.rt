@@ -11,19 +11,18 @@ use crate::search::CIRCULAR;
 use crate::search::LABELLED;
 use crate::search::MOVES;
 use crate::search::WORDS;
+use crate::writer::UNPADDED;
+use crate::writer::put_field;
 use crate::writer::put_names;
-use crate::writer::put_number;
-use crate::writer::put_one;
-use crate::writer::put_two;
 
 // What an output area holds before a call, in every byte.
 pub(crate) const BLANK: u8 = 35;
 
 // A line of three numbers.
 fn put_row(text: &mut Text, at: usize, a: u16, b: u16, c: u16) -> usize {
-    let p = put_two(text, at, a as u64, b as u64, 44);
-    let q = put_number(text, p, c as u64);
-    put_one(text, q, 10)
+    let p = put_field(text, at, a as u64, UNPADDED, 44);
+    let q = put_field(text, p, b as u64, UNPADDED, 44);
+    put_field(text, q, c as u64, UNPADDED, 10)
 }
 
 // The lines of the events.
@@ -65,9 +64,8 @@ pub(crate) fn put_report(text: &mut Text, d: &Desk, k: u16, room: usize) -> usiz
         return put_walk(text, d);
     }
     let a = put_names(text, 0, b"refused,");
-    let b = put_number(text, a, k as u64);
-    let c = put_one(text, b, 10);
-    if room < c { 0 } else { c }
+    let b = put_field(text, a, k as u64, UNPADDED, 10);
+    if room < b { 0 } else { b }
 }
 
 // Whether an output area that was blank does not hold the first `length` bytes of a text, and else its old bytes.

@@ -31,6 +31,8 @@ use crate::reader::judged;
 use crate::reader::read_text;
 use crate::tally::Outcome;
 use crate::tally::also;
+use crate::writer::PADDED;
+use crate::writer::UNPADDED;
 use crate::writer::Written;
 use crate::writer::put_one;
 use crate::writer::put_text;
@@ -144,6 +146,17 @@ pub(crate) fn draw_text(
     copy_damaged(text, length, g)
 }
 
+// The power of ten from which numbers have their digits: one digit at least, or up to five.
+fn draw_least(seed: u64) -> u64 {
+    match draw(seed, 81, 5) {
+        0 => UNPADDED,
+        1 => 10,
+        2 => 100,
+        3 => 1000,
+        _ => PADDED,
+    }
+}
+
 // The text of a listing as it was drawn.
 fn as_listed(seed: u64, n: u16, m: u16) -> Written {
     Written {
@@ -154,6 +167,7 @@ fn as_listed(seed: u64, n: u16, m: u16) -> Written {
         from_at: SPAN,
         to_at: SPAN,
         value: 0,
+        least: draw_least(seed),
     }
 }
 
@@ -172,8 +186,8 @@ fn draw_value(seed: u64, n: u16) -> u64 {
     }
 }
 
-// The text of a listing with one value in place of another, or with one line more or fewer, or as it was drawn.
-fn not_as_listed(seed: u64, n: u16, m: u16) -> Written {
+// The text of a listing with one value in place of another, or with one line more or fewer, or with six digits, or as it was drawn.
+pub(crate) fn not_as_listed(seed: u64, n: u16, m: u16) -> Written {
     let mut w = as_listed(seed, n, m);
     let line = draw(seed, 72, m) as usize;
     let value = draw_value(seed, n);
@@ -199,6 +213,9 @@ fn not_as_listed(seed: u64, n: u16, m: u16) -> Written {
         }
         6 => {
             w.lines = line;
+        }
+        7 => {
+            w.least = 100000;
         }
         _ => {}
     }

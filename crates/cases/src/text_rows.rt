@@ -5,6 +5,7 @@ use crate::areas::SPAN;
 use crate::areas::Text;
 use crate::areas::differ;
 use crate::areas::first_bytes;
+use crate::areas::next;
 use crate::calls::answer;
 use crate::calls::loaded;
 use crate::calls::read_profile;
@@ -14,10 +15,12 @@ use crate::profiles::read_twice;
 use crate::tally::Outcome;
 use crate::tally::also;
 use crate::tally::expected;
+use crate::writer::PADDED;
+use crate::writer::UNPADDED;
 use crate::writer::Written;
 
-// The sizes and the start that a text states, its lines, between so many vertices; a value in place of the first from or to; one
-// damage; the lengths of the areas.
+// The sizes and the start that a text states, its lines, between so many vertices; a value in place of the first from or to; the
+// power of ten from which numbers have their digits; one damage; where the text is to end, or 0; the lengths of the areas.
 struct Row {
     n: u64,
     m: u64,
@@ -27,9 +30,11 @@ struct Row {
     from_at: usize,
     to_at: usize,
     value: u64,
+    least: u64,
     kind: u16,
     place: usize,
     other: u8,
+    ends: usize,
     of_after: usize,
     of_tail: usize,
     number: u16,
@@ -46,9 +51,11 @@ fn values(n: u64, m: u64, start: u64, lines: usize, number: u16) -> Row {
         from_at: SPAN,
         to_at: SPAN,
         value: 0,
+        least: UNPADDED,
         kind: 5,
         place: 0,
         other: 0,
+        ends: 0,
         of_after: SPAN,
         of_tail: SPAN,
         number,
@@ -64,21 +71,21 @@ fn spoilt(kind: u16, place: usize, other: u8) -> Row {
     r
 }
 
-// A text of n vertices and no edge, with a zero in front of n.
-fn padded(n: u64, number: u16) -> Row {
-    let mut r = values(n, 0, 1, 0, number);
-    r.kind = 2;
-    r.place = 26;
-    r.other = b'0';
-    r
-}
-
 // The same text with a value in place of its from or its to.
 fn with_value(from_at: usize, to_at: usize, value: u64, number: u16) -> Row {
     let mut r = values(1, 1, 1, 1, number);
     r.from_at = from_at;
     r.to_at = to_at;
     r.value = value;
+    r
+}
+
+// A text of n vertices and m loops, with a zero in front of the number at a place.
+fn with_zero(n: u64, m: usize, place: usize, number: u16) -> Row {
+    let mut r = values(n, m as u64, 1, m, number);
+    r.kind = 2;
+    r.place = place;
+    r.other = b'0';
     r
 }
 
@@ -115,8 +122,8 @@ fn row_of_values(i: usize) -> Row {
     }
 }
 
-// from;to and 1;1; other names; line feeds and commas missing, doubled or behind a carriage return; a leading zero, which makes five digits or six; signs and
-// spaces; numbers without digits; texts cut off.
+// from;to and 1;1; other names; line feeds and commas missing, doubled or behind a carriage return; a zero in front, which makes five
+// digits or six; signs and spaces; numbers without digits; texts cut off.
 fn row_of_damage(i: usize) -> Row {
     match i {
         19 => spoilt(0, 36, b';'),
@@ -127,8 +134,8 @@ fn row_of_damage(i: usize) -> Row {
         24 => spoilt(2, 43, b'\r'),
         25 => spoilt(2, 25, b'\r'),
         26 => spoilt(3, 27, 0),
-        27 => padded(1000, 0),
-        28 => padded(65535, 12),
+        27 => with_zero(1000, 0, 26, 0),
+        28 => with_zero(65535, 0, 26, 12),
         29 => spoilt(2, 26, b'+'),
         30 => spoilt(2, 30, b'-'),
         31 => spoilt(2, 30, b' '),
@@ -155,6 +162,7 @@ fn longest(n: u64, kind: u16, place: usize, number: u16) -> Row {
     r.kind = kind;
     r.place = place;
     r.other = b';';
+    r.ends = next(place);
     r
 }
 
@@ -174,6 +182,36 @@ fn limit_row(i: usize) -> Row {
     }
 }
 
+// A row whose numbers have every digit from the power `least` down, and where its text is to end.
+fn filled(row: Row, least: u64, ends: usize) -> Row {
+    let mut r = row;
+    r.least = least;
+    r.ends = ends;
+    r
+}
+
+// The largest number of five digits; a zero in front of one number; all numbers of five digits, of six, and of six in one place.
+// Then lines of eight bytes and of twelve: texts of 65,536 bytes, of 65,537 where n has a digit more, and the largest that is taken.
+fn padded_row(i: usize) -> Row {
+    match i {
+        48 => values(99999, 0, 1, 0, 12),
+        49 => with_zero(1, 1, 26, 0),
+        50 => with_zero(1, 1, 40, 0),
+        51 => filled(values(12, 0, 12, 0, 0), PADDED, 52),
+        52 => filled(values(1, 1, 1, 1, 0), PADDED, 64),
+        53 => filled(values(1, 1, 1, 1, 12), 100000, 69),
+        54 => filled(spoilt(2, 26, b'0'), PADDED, 65),
+        55 => filled(spoilt(2, 32, b'0'), PADDED, 65),
+        56 => filled(spoilt(2, 38, b'0'), PADDED, 65),
+        57 => filled(spoilt(2, 52, b'0'), PADDED, 65),
+        58 => filled(spoilt(2, 58, b'0'), PADDED, 65),
+        59 => filled(at_limit(1000, 8186, 8186, 1, 2), 100, 65536),
+        60 => filled(at_limit(10000, 8186, 8186, 1, 13), 100, 65537),
+        61 => filled(at_limit(1, 5457, 5457, 1, 2), PADDED, 65536),
+        _ => filled(at_limit(1000, 4000, 4000, 1000, 0), PADDED, 48052),
+    }
+}
+
 fn written(r: Row) -> Written {
     Written {
         n: r.n,
@@ -183,6 +221,7 @@ fn written(r: Row) -> Written {
         from_at: r.from_at,
         to_at: r.to_at,
         value: r.value,
+        least: r.least,
     }
 }
 
@@ -196,10 +235,10 @@ fn damage(r: Row) -> Damage {
 
 // Whether a text that is to end at a place does not.
 fn ends_elsewhere(r: Row, length: usize) -> bool {
-    if r.lines < 16373 {
+    if r.ends == 0 {
         return false;
     }
-    length % 131072 != r.place % 131072 + 1
+    length != r.ends
 }
 
 // Reads the text of a row into the areas of its lengths.
@@ -238,7 +277,10 @@ fn text_row(i: usize) -> Row {
     if i < 39 {
         return row_of_damage(i);
     }
-    limit_row(i)
+    if i < 48 {
+        return limit_row(i);
+    }
+    padded_row(i)
 }
 
 // Draws the text of row i; its length.
@@ -254,7 +296,7 @@ pub(crate) fn row_number(i: usize) -> u16 {
 }
 
 pub(crate) fn text_case(d: &mut Desk, text: &mut Text, i: usize) -> Outcome {
-    if i == 48 {
+    if i == 63 {
         return printed_profile();
     }
     let length = draw_row(d, text, i);

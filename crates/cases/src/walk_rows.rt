@@ -19,17 +19,14 @@ use crate::tally::expected;
 use crate::text_rows::draw_row;
 use crate::text_rows::row_number;
 use crate::walked::walked;
+use crate::writer::UNPADDED;
 use crate::writer::Written;
 use crate::writer::put_names;
 use crate::writer::put_text;
 
-// The printed profile, with the bytes that are printed of it.
-fn printed_case(d: &mut Desk, text: &mut Text) -> Outcome {
-    let length = put_names(
-        text,
-        0,
-        b"elements,references,start\n3,4,1\nfrom,to\n1,2\n1,3\n2,3\n3,1\n",
-    );
+// A text of the printed profile, with the bytes that are printed of it.
+fn printed_case(d: &mut Desk, text: &mut Text, profile: &[u8]) -> Outcome {
+    let length = put_names(text, 0, profile);
     let o = walked(d, text, length, 5, 0);
     let bytes = put_walk(text, d);
     let differs = output_differs(
@@ -41,7 +38,7 @@ fn printed_case(d: &mut Desk, text: &mut Text) -> Outcome {
 }
 
 // The pairs of a chain: 1 to 2, 2 to 3 and on, and from 1,000 to 1 again.
-fn put_chain(d: &mut Desk, top: usize) {
+pub(crate) fn put_chain(d: &mut Desk, top: usize) {
     let mut i: usize = 0;
     while i < top {
         put_at(d, LISTED, i, edge(0, i % 1000));
@@ -50,9 +47,9 @@ fn put_chain(d: &mut Desk, top: usize) {
     }
 }
 
-// The first m pairs of the chain between 1,000 vertices, with what is counted: event words, vertices reached, moves, circular.
-fn chain_case(d: &mut Desk, text: &mut Text, m: u16, counts: &[u16]) -> Outcome {
-    let w = Written {
+// The text of m edges between 1,000 vertices.
+pub(crate) fn between_all(m: u16) -> Written {
+    Written {
         n: 1000,
         m: m as u64,
         start: 1,
@@ -60,9 +57,14 @@ fn chain_case(d: &mut Desk, text: &mut Text, m: u16, counts: &[u16]) -> Outcome 
         from_at: SPAN,
         to_at: SPAN,
         value: 0,
-    };
+        least: UNPADDED,
+    }
+}
+
+// The first m pairs of the chain between 1,000 vertices, with what is counted: event words, vertices reached, moves, circular.
+fn chain_case(d: &mut Desk, text: &mut Text, m: u16, counts: &[u16]) -> Outcome {
     put_chain(d, m as usize);
-    let length = put_text(text, 0, w, d);
+    let length = put_text(text, 0, between_all(m), d);
     let o = walked(d, text, length, 5, 0);
     also(expected(o, 0), differ(part(d, COUNTS, 5), counts))
 }
@@ -98,17 +100,29 @@ fn short_case(d: &mut Desk, text: &mut Text, i: usize) -> Outcome {
 
 pub(crate) fn case(d: &mut Desk, text: &mut Text, i: usize) -> Outcome {
     if i == 0 {
-        return printed_case(d, text);
+        return printed_case(
+            d,
+            text,
+            b"elements,references,start\n3,4,1\nfrom,to\n1,2\n1,3\n2,3\n3,1\n",
+        );
     }
+    // The same, each number with five digits.
     if i == 1 {
+        return printed_case(
+            d,
+            text,
+            b"elements,references,start\n00003,00004,00001\nfrom,to\n00001,00002\n00001,00003\n00002,00003\n00003,00001\n",
+        );
+    }
+    if i == 2 {
         return chain_case(d, text, 999, &[0, 11994, 1000, 2998, 0]);
     }
     // All 4,000 edges, four times round: no walk has more moves.
-    if i == 2 {
+    if i == 3 {
         return chain_case(d, text, 4000, &[0, 30000, 1000, 9000, 1]);
     }
-    if i < 48 {
-        return short_case(d, text, i - 3);
+    if i < 49 {
+        return short_case(d, text, i - 4);
     }
-    text_case(d, text, i - 48)
+    text_case(d, text, i - 49)
 }

@@ -51,7 +51,7 @@ fn length_of(area: usize, one: usize, less: usize) -> usize {
 }
 
 // Walks a text, one area lent shorter; links and marks, whole, come onto the desk.
-fn walk(
+pub(crate) fn walk(
     d: &mut Desk,
     text: &[u8],
     events: &mut [u16],
