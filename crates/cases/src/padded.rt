@@ -97,7 +97,7 @@ fn walked_both(d: &mut Desk, text: &mut Text, w: Written, one: usize) -> Outcome
     also(word(first), differs || prints || first != second)
 }
 
-// 8,186 lines of loops, in a text of so many bytes, with the number that it is to be answered with.
+// A text of 8,186 lines, 1,1 as far as the desk has words and then 0,0, that is to have so many bytes; with its number.
 fn loops_case(d: &mut Desk, text: &mut Text, least: u64, bytes: usize, number: u16) -> Outcome {
     draw_pairs(d, 0, 1, SPAN, 1);
     let length = put_text(text, 0, with_least(between_all(8186), least), d);

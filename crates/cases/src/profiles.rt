@@ -146,7 +146,7 @@ pub(crate) fn draw_text(
     copy_damaged(text, length, g)
 }
 
-// The power of ten from which numbers have their digits: one digit at least, or up to five.
+// The power of ten from which numbers have their digits: each has one digit at least, or two, up to five.
 fn draw_least(seed: u64) -> u64 {
     match draw(seed, 81, 5) {
         0 => UNPADDED,
@@ -186,7 +186,8 @@ fn draw_value(seed: u64, n: u16) -> u64 {
     }
 }
 
-// The text of a listing with one value in place of another, or with one line more or fewer, or with six digits, or as it was drawn.
+// The text of a listing with one value in place of another, or with one line more or fewer, or with numbers of six digits, or as it was
+// drawn.
 pub(crate) fn not_as_listed(seed: u64, n: u16, m: u16) -> Written {
     let mut w = as_listed(seed, n, m);
     let line = draw(seed, 72, m) as usize;

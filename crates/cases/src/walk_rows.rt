@@ -1,5 +1,5 @@
-// Texts whose walk is written down, or whose number: document 01's example, the rows of the table of texts, a chain of 1,000 vertices and
-// the longest walk, areas that are too short and outputs without room.
+// Texts whose walk is written down, or whose number: document 01's example, as it stands and padded, the rows of the table of texts, a
+// chain of 1,000 vertices and the longest walk, areas that are too short and outputs without room.
 use crate::areas::COUNTS;
 use crate::areas::Desk;
 use crate::areas::LISTED;

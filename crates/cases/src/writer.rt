@@ -7,16 +7,16 @@ use crate::areas::get_byte;
 use crate::areas::next;
 use crate::areas::put_byte;
 
+// Numbers are written with every digit from a power of ten down: from 1, no zero stands in front; from 10,000, each has five at least.
+pub(crate) const UNPADDED: u64 = 1;
+
+pub(crate) const PADDED: u64 = 10000;
+
 // Puts one byte at a place; the place past it.
 pub(crate) fn put_one(text: &mut Text, at: usize, b: u8) -> usize {
     put_byte(text, at, b);
     next(at)
 }
-
-// Numbers are written with every digit from a power of ten down: from 1, no zero stands in front; from 10,000, each has five at least.
-pub(crate) const UNPADDED: u64 = 1;
-
-pub(crate) const PADDED: u64 = 10000;
 
 // The digit of x at a power of ten, where x or the padding reaches so high.
 fn put_digit(text: &mut Text, at: usize, x: u64, power: u64, least: u64) -> usize {
