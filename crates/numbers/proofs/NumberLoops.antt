@@ -14,7 +14,7 @@ use borrow.Author.Tests.{lt-ltb, le-ltb, le-leb, lt-leb, leb-true, leb-false}
 use Rattle.lists.specs.Words.{pasted}
 use Rattle.lists.proofs.Words.{pasted-none, pasted-before}
 use Rattle.numbers.specs.Decimal.{limits, passed, decimalLength, digits, written, putAt, pastAt, isDigit, digitsAhead, valueAfter, few, Field, fieldOf, numberAt}
-use Rattle.numbers.proofs.Numbers.{digit-tested, length-digits, value-grows}
+use Rattle.numbers.proofs.Numbers.{length-digits, value-grows}
 
 -- ---- the length by the table
 -- The first k limits are passed.

@@ -1,6 +1,6 @@
 -- A number written is read back, behind zeros too, and what is read is written again behind its zeros.
 -- By the digits' recursion: writing takes the last digit off, reading puts it on. A number's length is told by the powers of ten around it.
-use mathlib.Core.Path.{_≡_, refl, sym, ap, _∙_, subst}
+use mathlib.Core.Path.{_≡_, refl, sym, ap, _∙_}
 use mathlib.Core.Bool.{Bool, true, false, cond, not, and-false}
 use mathlib.Core.List.{List, [], _∷_, _++_, append-assoc, append-nil}
 use mathlib.Core.Option.{none, some}
@@ -8,8 +8,8 @@ use Prim.Native.Nat.{ℕ, zero, suc, _+_, _-_, _*_, _/_, _%_, _^_, _≤_, _<_}
 use native.Mathlib.Omega.{arith}
 use native.Mathlib.Nat.{pow-succ', pow-le-pow-right}
 use lib.Dec.{eqb, ltb, leb}
-use lib.ListN.{length, drop, replicate, length-append, length-replicate}
-use lib.Seq.{append-snoc, drop-drop, drop-append-seam}
+use lib.ListN.{length, drop, replicate, length-append}
+use lib.Seq.{append-snoc, drop-drop}
 use borrow.Author.Tests.{ltb-true, ltb-false, leb-true, lt-ltb, le-leb, lt-leb, ne-eqb, eqb-false, not-true}
 use Rattle.lists.proofs.Tests.{clash, and-true, both, Compared, equal, other, compare}
 use Rattle.numbers.specs.Decimal.{decimalLength, digits, written, isDigit, digitsAhead, valueAfter, few, inForm, Field, fieldOf, numberAt}

@@ -1,6 +1,6 @@
 -- Padding: a text without it begins with the digits as they are written, and goes on with what follows them, without padding.
 -- By the text's recursion; what follows digits is no digit, so that the digits that two equal texts begin with are equal.
-use mathlib.Core.Path.{_≡_, refl, sym, ap, _∙_, subst}
+use mathlib.Core.Path.{_≡_, refl, sym, ap, _∙_}
 use mathlib.Core.Bool.{Bool, true, false, cond, not, _&&_, _||_, and-true, and-false, or-false, or-assoc}
 use mathlib.Core.List.{List, [], _∷_, _++_, append-assoc, append-nil}
 use mathlib.Core.Option.{none, some, Option·none-ne-some}
@@ -14,7 +14,7 @@ use Rattle.lists.proofs.Tests.{clash, neither, Compared, equal, other, compare}
 use Rattle.numbers.specs.Decimal.{written, isDigit, digitsAhead, valueAfter, inForm, Field, numberAt}
 use Rattle.numbers.specs.Padding.{padded, zeroFirst, paddingFrom, hasPadding, plain, unpadFrom, unpad}
 use Rattle.numbers.specs.Claims.{PaddingClaim, UnpadClaim, Found, ReadingClaim}
-use Rattle.numbers.proofs.Numbers.{Digit, digit-tested, AllDigits, all-append, unpadded, ahead-all, ahead-drop, ahead-ends, ahead-append, written-all, written-value, length-written, padded-all, padded-value, padded-form, written-unpadded, written-again, written-form, form-bounds, number-read, number-here}
+use Rattle.numbers.proofs.Numbers.{digit-tested, AllDigits, all-append, unpadded, ahead-all, ahead-drop, ahead-ends, ahead-append, written-all, written-value, length-written, padded-all, padded-value, padded-form, written-unpadded, written-again, written-form, form-bounds, number-read, number-here}
 
 -- What follows the digits that a text begins with.
 abbrev behind : List ℕ → List ℕ

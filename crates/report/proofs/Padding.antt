@@ -15,7 +15,7 @@ use Rattle.texts.specs.Text.{Listing, listingOf}
 use Rattle.texts.specs.Loading.{Reading, refused, loaded, decided, linesOut}
 use Rattle.texts.proofs.Texts.{text-claim}
 use Rattle.texts.proofs.Alike.{same-size}
-use Rattle.report.specs.Report.{lentAreas, reportNumber, judgedWith, walkReading, numberTo, Told, reported, reportOf}
+use Rattle.report.specs.Report.{lentAreas, reportNumber, judgedWith, walkReading, numberTo, reported, reportOf}
 use Rattle.report.specs.Claims.{Alike, PrintAlikeClaim}
 
 one-profile : (s t : List ℕ) → textOut (length s) ≡ textOut (length t) → listingOf s ≡ listingOf t → Alike s t

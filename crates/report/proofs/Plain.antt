@@ -4,13 +4,12 @@ use mathlib.Core.Path.{_≡_, refl, sym, ap, _∙_, subst}
 use mathlib.Core.Bool.{Bool, true, false, cond}
 use mathlib.Core.List.{List, [], _∷_, _++_, reverse, append-assoc, append-nil}
 use mathlib.Core.Option.{Option, none, some}
-use Prim.Native.Nat.{ℕ, zero, suc, _+_, _*_, _≤_}
+use Prim.Native.Nat.{ℕ, zero, suc, _+_, _≤_}
 use native.Mathlib.Omega.{arith}
 use lib.ListN.{length, take, drop}
 use lib.Seq.{take-append-seam}
 use Rattle.lists.specs.Words.{pasted}
 use Rattle.lists.proofs.Words.{pasted-front}
-use Rattle.graphs.specs.Nodes.{Vertex, Edge}
 use Rattle.graphs.specs.Events.{Kind, Event, event, label, advance-tree, advance-nontree, retreat-nontree, retreat-tree, scan, traverse, code, History, labelled, count}
 use Rattle.graphs.specs.Image.{graphOf}
 use Rattle.graphs.specs.Refusals.{refuse, firstOf, Lent, verticesOut, edgesOut, vertexOut, short, textOut}
@@ -20,7 +19,7 @@ use Rattle.graphs.proofs.Owned.{met-most, image-owned}
 use Rattle.graphs.proofs.Named.{Each, each-reverse, Naming, depth-each}
 use Rattle.graphs.proofs.Depth.{depth-first}
 use Rattle.graphs.proofs.Room.{profile-ready}
-use Rattle.folding.specs.Claims.{flag, circularOf}
+use Rattle.folding.specs.Claims.{flag}
 use Rattle.numbers.specs.Decimal.{room, putAt, pastAt}
 use Rattle.numbers.specs.Padding.{hasPadding}
 use Rattle.numbers.proofs.Padding.{padding-claim}
@@ -29,9 +28,9 @@ use Rattle.texts.specs.Loading.{Reading, refused, loaded, decided, reading, ima
 use Rattle.texts.proofs.Plain.{names-plain, Fit, row-plain}
 use Rattle.walks.specs.Promises.{depthWalk}
 use Rattle.report.specs.Printed.{eventNames, totalNames, refusedName, eventRows, totalsOf, printedOf, walkPrinted, refusalPrinted}
-use Rattle.report.specs.Report.{graphFrom, walkFrom, lentAreas, reportNumber, judgedWith, walkReading, numberTo, Told, reported, reportOf}
+use Rattle.report.specs.Report.{graphFrom, lentAreas, reportNumber, judgedWith, walkReading, numberTo, reported, reportOf}
 use Rattle.report.specs.Claims.{printed, PlainClaim}
-use Rattle.report.proofs.Judged.{Long, long-areas, reading-long}
+use Rattle.report.proofs.Judged.{long-areas, reading-long}
 use Rattle.report.proofs.Graphs.{F, P, same-walk, same-met}
 use Rattle.report.proofs.Padding.{taken}
 

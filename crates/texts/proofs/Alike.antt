@@ -1,7 +1,7 @@
 -- Texts that differ in padding only are refused or loaded alike: a text is read by its length and by what it says.
 -- One that is loaded has 4,000 references at most, so no padding makes it too long.
-use mathlib.Core.Path.{_≡_, refl, sym, ap, _∙_}
-use mathlib.Core.Bool.{Bool, false, cond}
+use mathlib.Core.Path.{_≡_, sym, _∙_}
+use mathlib.Core.Bool.{false, cond}
 use mathlib.Core.List.{List}
 use mathlib.Core.Option.{some}
 use Prim.Native.Nat.{ℕ, _≤_}

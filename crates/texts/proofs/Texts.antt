@@ -1,7 +1,7 @@
 -- A text says a profile exactly if it is what is written of that profile, but for padding; from the claims of numbers alone.
 -- By layers, number, field, line, lines, head: what lies ahead at a place, but for padding, is read, and what is read lay ahead.
 use mathlib.Core.Path.{_≡_, refl, sym, ap, _∙_, subst}
-use mathlib.Core.Bool.{Bool, true, false, cond, not, _&&_}
+use mathlib.Core.Bool.{Bool, true, false, cond, not}
 use mathlib.Core.List.{List, [], _∷_, _++_, append-assoc}
 use mathlib.Core.Option.{Option, none, some}
 use Prim.Native.Nat.{ℕ, zero, suc, _+_, _*_, _≤_, _<_}
