@@ -143,7 +143,7 @@ fn print_walks() {
     print(b"walk_text: examples and limits", 17, 112);
     print(b"walk_text: texts in form", 18, 2000);
     print(b"walk_text: damaged texts", 19, 4000);
-    print(b"walk_text: padded and not", 20, 602);
+    print(b"walk_text: padded and not", 20, 603);
 }
 
 fn main() {

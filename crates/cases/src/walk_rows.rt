@@ -47,8 +47,8 @@ pub(crate) fn put_chain(d: &mut Desk, top: usize) {
     }
 }
 
-// The text of m edges between 1,000 vertices.
-pub(crate) fn between_all(m: u16) -> Written {
+// The text of m edges between 1,000 vertices, with every digit from the power `least` down.
+pub(crate) fn between_all(m: u16, least: u64) -> Written {
     Written {
         n: 1000,
         m: m as u64,
@@ -57,14 +57,14 @@ pub(crate) fn between_all(m: u16) -> Written {
         from_at: SPAN,
         to_at: SPAN,
         value: 0,
-        least: UNPADDED,
+        least,
     }
 }
 
 // The first m pairs of the chain between 1,000 vertices, with what is counted: event words, vertices reached, moves, circular.
 fn chain_case(d: &mut Desk, text: &mut Text, m: u16, counts: &[u16]) -> Outcome {
     put_chain(d, m as usize);
-    let length = put_text(text, 0, between_all(m), d);
+    let length = put_text(text, 0, between_all(m, UNPADDED), d);
     let o = walked(d, text, length, 5, 0);
     also(expected(o, 0), differ(part(d, COUNTS, 5), counts))
 }
