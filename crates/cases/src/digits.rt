@@ -161,14 +161,49 @@ fn draw_number(seed: u64) -> u16 {
     }
 }
 
+// The case of a number whose digits are written down: with room for exactly these they are written, with less nothing is.
+fn written_as(text: &mut Text, x: u16, digits: &[u8], less: usize) -> Outcome {
+    let without = written(text, x, less, 0);
+    let o = written(text, x, digits.len(), 0);
+    store_bytes(text, ROOM, digits);
+    also(
+        o,
+        without != 3 || o != 0 || bytes_differ(text, digits.len()),
+    )
+}
+
+// The least and the greatest number of each length.
+fn length_case(text: &mut Text, i: usize) -> Outcome {
+    match i {
+        0 => written_as(text, 0, b"0", 0),
+        1 => written_as(text, 9, b"9", 0),
+        2 => written_as(text, 10, b"10", 1),
+        3 => written_as(text, 99, b"99", 1),
+        4 => written_as(text, 100, b"100", 2),
+        5 => written_as(text, 999, b"999", 2),
+        6 => written_as(text, 1000, b"1000", 3),
+        7 => written_as(text, 9999, b"9999", 3),
+        8 => written_as(text, 10000, b"10000", 4),
+        _ => written_as(text, 65535, b"65535", 4),
+    }
+}
+
 // A number written at a place with or without room.
-pub(crate) fn room_case(text: &mut Text, seed: u64) -> Outcome {
+fn placed_case(text: &mut Text, seed: u64) -> Outcome {
     written(
         text,
         draw_number(seed),
         draw(seed, 65, 17) as usize,
         draw_place(seed),
     )
+}
+
+// The rows, then numbers and places by chance.
+pub(crate) fn room_case(text: &mut Text, i: usize) -> Outcome {
+    if i < 10 {
+        return length_case(text, i);
+    }
+    placed_case(text, i as u64 - 10)
 }
 
 // Bytes by chance: mostly digits, many of them zeros, else what stands next to the digits, in a text or in no text.

@@ -65,7 +65,7 @@ fn text_case(d: &mut Desk, text: &mut Text, group: u16, i: usize) -> Outcome {
 fn number_case(text: &mut Text, group: u16, i: usize) -> Outcome {
     match group {
         12 => digits::value_case(text, i),
-        13 => digits::room_case(text, i as u64),
+        13 => digits::room_case(text, i),
         14 => digits::digits_case(text, i),
         15 => nodes::vertex_case(i as u64),
         _ => nodes::link_case(i as u64),
@@ -133,7 +133,7 @@ fn print_texts() {
 
 fn print_numbers() {
     print(b"write_number and read_number: every number", 12, 65536);
-    print(b"write_number: with and without room", 13, 4000);
+    print(b"write_number: with and without room", 13, 4010);
     print(b"read_number: in form and not", 14, 4012);
     print(b"is_vertex", 15, 4000);
     print(b"is_link", 16, 4000);

@@ -9,7 +9,6 @@ pub mod Follow
 pub mod DepthGrowth
 pub mod DepthCounts
 pub mod Depth
-pub mod Named
 pub mod Results
 pub mod Places
 pub mod Tails

@@ -1,6 +1,6 @@
--- What the loops of the numbers' code keep: the limits passed, the value read so far, the digits put so far.
--- Each loop's step takes one limit or one digit, as the recursion of its definition does.
-use mathlib.Core.Path.{_≡_, refl, sym, ap, _∙_, subst}
+-- What the loops of the numbers' code keep: the value read so far, the digits put so far.
+-- Each loop's step takes one digit, as the recursion of its definition does.
+use mathlib.Core.Path.{_≡_, refl, sym, ap, _∙_}
 use mathlib.Core.Bool.{Bool, true, false, cond, _&&_, and-false}
 use mathlib.Core.List.{List, [], _∷_, _++_, append-nil}
 use mathlib.Core.Option.{Option, none, some}
@@ -10,36 +10,11 @@ use native.Mathlib.Omega.{arith}
 use lib.Dec.{leb}
 use lib.ListN.{length, drop, getD, set, drop-of-length-le}
 use lib.Seq.{append-snoc, drop-cons}
-use borrow.Author.Tests.{lt-ltb, le-ltb, le-leb, lt-leb, leb-true, leb-false}
+use borrow.Author.Tests.{lt-ltb, le-leb, lt-leb, leb-true, leb-false}
 use Rattle.lists.specs.Words.{pasted}
 use Rattle.lists.proofs.Words.{pasted-none, pasted-before}
-use Rattle.numbers.specs.Decimal.{limits, passed, decimalLength, digits, written, putAt, pastAt, isDigit, digitsAhead, valueAfter, few, Field, fieldOf, numberAt}
-use Rattle.numbers.proofs.Numbers.{length-digits, value-grows}
-
--- ---- the length by the table
--- The first k limits are passed.
-abbrev pub Passing : ℕ → ℕ → Type 0
-Passing x k = decimalLength x ≡ suc (k + passed x (drop k limits))
-
-pub passing-none : (x : ℕ) → Passing x 0
-unfolding decimalLength
-passing-none x = let e : passed x limits ≡ 0 + passed x limits = omega arith in ap suc e
-
--- The next limit is passed.
-pub passing-next : (x k : ℕ) → Passing x k → k < 4 → getD limits k 0 ≤ x → Passing x (k + 1)
-passing-next x k p h q =
-    let e : passed x (drop k limits) ≡ suc (passed x (drop (suc k) limits)) = rw (drop-cons limits k 0 h, le-ltb x (getD limits k 0) q) in
-    rw (add-one k) (omega arith)
-
--- The next limit is not passed.
-pub passing-here : (x k : ℕ) → Passing x k → k < 4 → x < getD limits k 0 → decimalLength x ≡ k + 1
-passing-here x k p h q =
-    let e : passed x (drop k limits) ≡ 0 = rw (drop-cons limits k 0 h, lt-ltb x (getD limits k 0) q) in
-    omega arith
-
--- All limits are passed.
-pub passing-all : (x k : ℕ) → Passing x k → k ≡ 4 → decimalLength x ≡ 5
-passing-all x k p e = subst (λ (j : ℕ). Passing x j) e p
+use Rattle.numbers.specs.Decimal.{decimalLength, digits, written, putAt, pastAt, isDigit, digitsAhead, valueAfter, few, Field, fieldOf, numberAt}
+use Rattle.numbers.proofs.Numbers.{length-claim, value-grows}
 
 -- ---- a number read on
 -- The digits from place i on.
@@ -153,8 +128,7 @@ Put x at start next area = (next ≡ pastAt (written x) at start) × (area ≡ p
 
 module _ (x k at : ℕ) (start : List ℕ) (e : k ≡ decimalLength x) where
   size : length (written x) ≡ k
-  unfolding written
-  size = length-digits (decimalLength x) x ∙ sym e
+  size = length-claim .in-bytes x ∙ sym e
 
   pub put-none : length start < at + k → Put x at start at start
   unfolding putAt pastAt

@@ -12,9 +12,9 @@ use lib.ListN.{length, drop, replicate, length-append}
 use lib.Seq.{append-snoc, drop-drop}
 use borrow.Author.Tests.{ltb-true, ltb-false, leb-true, lt-ltb, le-leb, lt-leb, ne-eqb, eqb-false, not-true}
 use Rattle.lists.proofs.Tests.{clash, and-true, both, Compared, equal, other, compare}
-use Rattle.numbers.specs.Decimal.{decimalLength, digits, written, isDigit, digitsAhead, valueAfter, few, inForm, Field, fieldOf, numberAt}
+use Rattle.numbers.specs.Decimal.{divisions, decimalLength, digits, written, isDigit, digitsAhead, valueAfter, few, inForm, Field, fieldOf, numberAt}
 use Rattle.numbers.specs.Padding.{padded}
-use Rattle.numbers.specs.Claims.{Standing, NumberClaim}
+use Rattle.numbers.specs.Claims.{tableLength, LengthClaim, WritingClaim, Standing, NumberClaim}
 
 -- ---- values
 value-append : (v : ℕ) (ds es : List ℕ) → valueAfter v (ds ++ es) ≡ valueAfter (valueAfter v ds) es
@@ -59,7 +59,7 @@ digits-all : (k x : ℕ) → AllDigits (digits k x)
 digits-all zero x = tt
 digits-all (suc k) x = all-append (digits k (x / 10)) ((48 + x % 10) ∷ []) (digits-all k (x / 10)) (digit-bounded (48 + x % 10) (omega arith) (omega arith), tt)
 
-pub length-digits : (k x : ℕ) → length (digits k x) ≡ k
+length-digits : (k x : ℕ) → length (digits k x) ≡ k
 length-digits zero x = refl
 length-digits (suc k) x = let h = length-digits k (x / 10) in omega (arith, length-append (digits k (x / 10)) ((48 + x % 10) ∷ []))
 
@@ -133,10 +133,30 @@ long-once {x} (one p) (more k q r) = absurd (let h = order (suc k) 1 x q p in om
 long-once {x} (more j p q) (one r) = absurd (let h = order (suc j) 1 x p r in omega arith)
 long-once {x} (more j p q) (more k r s) = let g = order (suc j) (suc (suc k)) x p s in let h = order (suc k) (suc (suc j)) x r q in omega arith
 
--- The table gives it.
-long : (x : ℕ) → x ≤ 65535 → Long x (decimalLength x)
+-- A digit more.
+long-more : {x k : ℕ} → 10 ≤ x → Long (x / 10) k → Long x (suc k)
+long-more h (one p) = more 0 h (omega arith)
+long-more h (more k p q) =
+    let a : 10 ^ suc (suc k) ≡ 10 * 10 ^ suc k = pow-succ' 10 (suc k) in
+    let b : 10 ^ suc (suc (suc k)) ≡ 10 * 10 ^ suc (suc k) = pow-succ' 10 (suc (suc k)) in
+    more (suc k) (omega arith) (omega arith)
+
+-- The formula gives it.
+long-divided : (k x : ℕ) → x ≤ k → Long x (suc (divisions k x))
+long-divided zero x h = one (omega arith)
+long-divided (suc k) x h = go (ltb x 10) refl (λ t. long-divided k (x / 10) (omega (arith, t, h)))
+  where
+    go : (t : Bool) → ltb x 10 ≡ t → (10 ≤ x → Long (x / 10) (suc (divisions k (x / 10)))) → Long x (suc (cond t 0 (suc (divisions k (x / 10)))))
+    go true e ih = one (ltb-true x 10 e)
+    go false e ih = long-more (ltb-false x 10 e) (ih (ltb-false x 10 e))
+
+long : (x : ℕ) → Long x (decimalLength x)
 unfolding decimalLength
-long x h = go (ltb x 10) (ltb x 100) (ltb x 1000) (ltb x 10000) refl refl refl refl
+long x = long-divided x x (omega arith)
+
+-- So does the table, of a number up to 65,535.
+long-table : (x : ℕ) → x ≤ 65535 → Long x (tableLength x)
+long-table x h = go (ltb x 10) (ltb x 100) (ltb x 1000) (ltb x 10000) refl refl refl refl
   where
     go : (a b c d : Bool) → ltb x 10 ≡ a → ltb x 100 ≡ b → ltb x 1000 ≡ c → ltb x 10000 ≡ d → Long x (suc (cond a 0 (suc (cond b 0 (suc (cond c 0 (suc (cond d 0 1))))))))
     go true b c d p q r s = one (ltb-true x 10 p)
@@ -144,6 +164,15 @@ long x h = go (ltb x 10) (ltb x 100) (ltb x 1000) (ltb x 10000) refl refl refl r
     go false false true d p q r s = more 1 (ltb-false x 100 q) (ltb-true x 1000 r)
     go false false false true p q r s = more 2 (ltb-false x 1000 r) (ltb-true x 10000 s)
     go false false false false p q r s = more 3 (ltb-false x 10000 s) (omega arith)
+
+below-ten : (x : ℕ) → x < 10 → decimalLength x ≡ 1
+below-ten x h = long-once (long x) (one h)
+
+divided : (x : ℕ) → 10 ≤ x → decimalLength x ≡ suc (decimalLength (x / 10))
+divided x h = long-once (long x) (long-more h (long (x / 10)))
+
+from-table : (x : ℕ) → x ≤ 65535 → decimalLength x ≡ tableLength x
+from-table x h = long-once (long x) (long-table x h)
 
 -- One digit, or several of which the first is no zero.
 abbrev pub unpadded : List ℕ → Bool
@@ -192,30 +221,64 @@ long-unpadded (one p) = refl
 long-unpadded {x} (more k p q) = ap unpadded (sym (append-nil (digits (suc (suc k)) x))) ∙ digits-unpadded (suc k) x [] p q
 
 -- ---- a number written
+in-bytes : (x : ℕ) → length (written x) ≡ decimalLength x
+unfolding written
+in-bytes x = length-digits (decimalLength x) x
+
+bytes-from-table : (x : ℕ) → x ≤ 65535 → written x ≡ digits (tableLength x) x
+unfolding written
+bytes-from-table x h = ap (λ (k : ℕ). digits k x) (from-table x h)
+
+pub length-claim : LengthClaim
+length-claim = record {
+  below-ten = below-ten;
+  divided = divided;
+  in-bytes = in-bytes;
+  from-table = from-table;
+  bytes-from-table = bytes-from-table;
+}
+
+written-one : (x : ℕ) → x < 10 → written x ≡ (48 + x) ∷ []
+unfolding written
+written-one x h = let e : x % 10 ≡ x = omega arith in ap (λ (k : ℕ). digits k x) (below-ten x h) ∙ ap (λ (d : ℕ). (48 + d) ∷ []) e
+
+written-more : (x : ℕ) → 10 ≤ x → written x ≡ written (x / 10) ++ ((48 + x % 10) ∷ [])
+unfolding written
+written-more x h = ap (λ (k : ℕ). digits k x) (divided x h)
+
+pub writing-claim : WritingClaim
+writing-claim = record { one = written-one; more = written-more }
+
 pub written-all : (x : ℕ) → AllDigits (written x)
 unfolding written
 written-all x = digits-all (decimalLength x) x
 
-pub written-value : (x : ℕ) → x ≤ 65535 → valueAfter 0 (written x) ≡ x
+pub written-value : (x : ℕ) → valueAfter 0 (written x) ≡ x
 unfolding written
-written-value x h = value-digits (decimalLength x) x (long-below (long x h))
+written-value x = value-digits (decimalLength x) x (long-below (long x))
 
-pub written-unpadded : (x : ℕ) → x ≤ 65535 → unpadded (written x) ≡ true
+pub written-unpadded : (x : ℕ) → unpadded (written x) ≡ true
 unfolding written
-written-unpadded x h = long-unpadded (long x h)
+written-unpadded x = long-unpadded (long x)
 
-pub written-again : (ds : List ℕ) → AllDigits ds → unpadded ds ≡ true → valueAfter 0 ds ≤ 65535 → written (valueAfter 0 ds) ≡ ds
+pub written-again : (ds : List ℕ) → AllDigits ds → unpadded ds ≡ true → written (valueAfter 0 ds) ≡ ds
 unfolding written
-written-again ds p u h =
+written-again ds p u =
     let e : length ds ≡ 0 + length ds = omega arith in
-    ap (λ (k : ℕ). digits k (valueAfter 0 ds)) (long-once (long (valueAfter 0 ds) h) (value-long ds p u) ∙ e) ∙ digits-value 0 0 ds p
+    ap (λ (k : ℕ). digits k (valueAfter 0 ds)) (long-once (long (valueAfter 0 ds)) (value-long ds p u) ∙ e) ∙ digits-value 0 0 ds p
 
--- A number has 1 to 5 bytes.
-pub length-written : (x : ℕ) → x ≤ 65535 → (1 ≤ length (written x)) × (length (written x) ≤ 5)
-unfolding written
-length-written x h = rw (length-digits (decimalLength x) x) (go (long x h))
+-- A number has a byte at least, and up to 65,535 five at most.
+pub written-some : (x : ℕ) → 1 ≤ length (written x)
+written-some x = rw (in-bytes x) (go (long x))
   where
-    go : {k : ℕ} → Long x k → (1 ≤ k) × (k ≤ 5)
+    go : {k : ℕ} → Long x k → 1 ≤ k
+    go (one p) = omega arith
+    go (more k p q) = omega arith
+
+pub written-most : (x : ℕ) → x ≤ 65535 → length (written x) ≤ 5
+written-most x h = rw (in-bytes x) (go (long x))
+  where
+    go : {k : ℕ} → Long x k → k ≤ 5
     go (one p) = omega arith
     go (more k p q) = omega (arith, order (suc k) 5 x p (omega arith))
 
@@ -232,17 +295,17 @@ zeros-all (suc z) = (digit-bounded 48 (omega arith) (omega arith), zeros-all z)
 pub padded-all : (z x : ℕ) → AllDigits (padded z x)
 padded-all z x = all-append (replicate z 48) (written x) (zeros-all z) (written-all x)
 
-pub padded-value : (z x : ℕ) → x ≤ 65535 → valueAfter 0 (padded z x) ≡ x
-padded-value z x h = value-zeros z (written x) ∙ written-value x h
+pub padded-value : (z x : ℕ) → valueAfter 0 (padded z x) ≡ x
+padded-value z x = value-zeros z (written x) ∙ written-value x
 
 pub padded-form : (z x : ℕ) → x ≤ 65535 → length (padded z x) ≤ 5 → inForm (padded z x) ≡ true
 padded-form z x h l =
-    let some-digit : 0 < length (padded z x) = omega (arith, length-append (replicate z 48) (written x), length-written x h .0) in
-    and-true (and-true (lt-ltb 0 (length (padded z x)) some-digit) (le-leb (length (padded z x)) _ (omega (arith, l)))) (ap (λ (v : ℕ). leb v 65535) (padded-value z x h) ∙ le-leb x 65535 h)
+    let some-digit : 0 < length (padded z x) = omega (arith, length-append (replicate z 48) (written x), written-some x) in
+    and-true (and-true (lt-ltb 0 (length (padded z x)) some-digit) (le-leb (length (padded z x)) _ (omega (arith, l)))) (ap (λ (v : ℕ). leb v 65535) (padded-value z x) ∙ le-leb x 65535 h)
 
 -- A number that is written is in form.
 pub written-form : (x : ℕ) → x ≤ 65535 → inForm (written x) ≡ true
-written-form x h = padded-form 0 x h (length-written x h .1)
+written-form x h = padded-form 0 x h (written-most x h)
 
 -- Some zeros, and digits that are not padded.
 record Split (ds : List ℕ) : Type 0 where
@@ -265,12 +328,12 @@ record Again (ds : List ℕ) : Type 0 where
   zeros : ℕ
   same : ds ≡ padded zeros (valueAfter 0 ds)
 
-again : (ds : List ℕ) → AllDigits ds → 0 < length ds → valueAfter 0 ds ≤ 65535 → Again ds
-again [] p l h = absurd (omega arith)
-again (d ∷ ds) p l h =
+again : (ds : List ℕ) → AllDigits ds → 0 < length ds → Again ds
+again [] p l = absurd (omega arith)
+again (d ∷ ds) p l =
     let s = split d ds p in
     let v : valueAfter 0 (s .digits-left) ≡ valueAfter 0 (d ∷ ds) = sym (ap (valueAfter 0) (s .joined) ∙ value-zeros (s .zeros) (s .digits-left)) in
-    let w : written (valueAfter 0 (s .digits-left)) ≡ s .digits-left = written-again (s .digits-left) (s .all) (s .form) (omega arith) in
+    let w : written (valueAfter 0 (s .digits-left)) ≡ s .digits-left = written-again (s .digits-left) (s .all) (s .form) in
     record { zeros = s .zeros; same = s .joined ∙ ap (λ (l : List ℕ). replicate (s .zeros) 48 ++ l) (sym w ∙ ap written v) }
 
 -- ---- a number read
@@ -294,7 +357,7 @@ number-read text at f h = go (inForm (digitsAhead (drop at text))) refl h
     go false e h = absurd (let z : _≡_ {A = ℕ} 0 1 = cc in omega arith)
 
 -- Digits in form are few, and fit.
-pub form-bounds : (ds : List ℕ) → inForm ds ≡ true → (0 < length ds) × (length ds ≤ 5) × (valueAfter 0 ds ≤ 65535)
+form-bounds : (ds : List ℕ) → inForm ds ≡ true → (0 < length ds) × (length ds ≤ 5) × (valueAfter 0 ds ≤ 65535)
 form-bounds ds e =
     let a = both (few ds) (leb (valueAfter 0 ds) 65535) e in
     let b = both (ltb 0 (length ds)) (leb (length ds) 5) (a .0) in
@@ -305,7 +368,7 @@ stands text at f h =
     let r = number-read text at f h in
     let ds = digitsAhead (drop at text) in
     let b = form-bounds ds (r .form) in
-    let a = again ds (ahead-all (drop at text)) (b .0) (b .2) in
+    let a = again ds (ahead-all (drop at text)) (b .0) in
     let same : ds ≡ padded (a .zeros) (f .value) = a .same ∙ ap (padded (a .zeros)) (r .value-is) in
     let behind : drop (length ds) (drop at text) ≡ drop (f .next) text = drop-drop (length ds) at text ∙ ap (λ (k : ℕ). drop k text) (sym (r .past)) in
     record {
@@ -327,7 +390,7 @@ reads : (text : List ℕ) (at : ℕ) (f : Field) → Standing text at f → numb
 reads text at f s =
     let ds = padded (s .zeros) (f .value) in
     let ahead : digitsAhead (drop at text) ≡ ds = ap digitsAhead (s .bytes) ∙ ahead-append ds (drop (f .next) text) (padded-all (s .zeros) (f .value)) (s .ends) in
-    let v = padded-value (s .zeros) (f .value) (s .fits) in
+    let v = padded-value (s .zeros) (f .value) in
     let n = sym (s .past) in
     number-here text at ds ahead (padded-form (s .zeros) (f .value) (s .fits) (s .few)) ∙ (λ i. some (record { value = v i; next = n i }))
 
@@ -340,4 +403,4 @@ unfolding numberAt
 too-large text at h = let ds = digitsAhead (drop at text) in rw (lt-leb (valueAfter 0 ds) 65535 h, and-false (few ds))
 
 pub number-claim : NumberClaim
-number-claim = record { size = length-written; found = λ text at f. (stands text at f, reads text at f); too-long = too-long; too-large = too-large }
+number-claim = record { size = λ x h. (written-some x, written-most x h); found = λ text at f. (stands text at f, reads text at f); too-long = too-long; too-large = too-large }

@@ -14,7 +14,7 @@ use Rattle.lists.proofs.Tests.{clash, neither, Compared, equal, other, compare}
 use Rattle.numbers.specs.Decimal.{written, isDigit, digitsAhead, valueAfter, inForm, Field, numberAt}
 use Rattle.numbers.specs.Padding.{padded, zeroFirst, paddingFrom, hasPadding, plain, unpadFrom, unpad}
 use Rattle.numbers.specs.Claims.{PaddingClaim, UnpadClaim, Found, ReadingClaim}
-use Rattle.numbers.proofs.Numbers.{digit-tested, AllDigits, all-append, unpadded, ahead-all, ahead-drop, ahead-ends, ahead-append, written-all, written-value, length-written, padded-all, padded-value, padded-form, written-unpadded, written-again, written-form, form-bounds, number-read, number-here}
+use Rattle.numbers.proofs.Numbers.{digit-tested, AllDigits, all-append, unpadded, ahead-all, ahead-drop, ahead-ends, ahead-append, written-all, written-value, written-some, written-most, padded-all, padded-value, padded-form, written-unpadded, written-again, written-form, number-read, number-here}
 
 -- What follows the digits that a text begins with.
 abbrev behind : List ℕ → List ℕ
@@ -99,7 +99,7 @@ reads text at x rest fit within h e = go (inForm (digitsAhead (drop at text))) r
 
     go : (t : Bool) → inForm ds ≡ t → Found text at x rest
     go true f =
-        let v : valueAfter 0 ds ≡ x = sym (written-value (valueAfter 0 ds) (form-bounds ds f .2)) ∙ ap (valueAfter 0) (sym (plain-form ds f) ∙ b .0) ∙ written-value x fit in
+        let v : valueAfter 0 ds ≡ x = sym (written-value (valueAfter 0 ds)) ∙ ap (valueAfter 0) (sym (plain-form ds f) ∙ b .0) ∙ written-value x in
         record {
           next = at + length ds;
           found = number-here text at ds refl f ∙ ap (λ (w : ℕ). some (record { value = w; next = at + length ds })) v;
@@ -111,11 +111,11 @@ reads text at x rest fit within h e = go (inForm (digitsAhead (drop at text))) r
 -- ---- bytes
 -- Digits have some without padding, too.
 plain-some : (d : ℕ) (ds : List ℕ) → 0 < length (plain (d ∷ ds))
-plain-some d ds = go (inForm (d ∷ ds)) refl
+plain-some d ds = go (inForm (d ∷ ds))
   where
-    go : (t : Bool) → inForm (d ∷ ds) ≡ t → 0 < length (cond t (written (valueAfter 0 (d ∷ ds))) (d ∷ ds))
-    go true e = omega (arith, length-written (valueAfter 0 (d ∷ ds)) (form-bounds (d ∷ ds) e .2) .0)
-    go false e = omega arith
+    go : (t : Bool) → 0 < length (cond t (written (valueAfter 0 (d ∷ ds))) (d ∷ ds))
+    go true = omega (arith, written-some (valueAfter 0 (d ∷ ds)))
+    go false = omega arith
 
 -- A text that begins with a digit does so without padding, too.
 digit-first : (c : ℕ) (l : List ℕ) → isDigit c ≡ true → 0 < length (digitsAhead (unpad (c ∷ l)))
@@ -145,7 +145,7 @@ reading-claim = record { reads = reads; was-read = was-read; byte-was = byte-was
 number : (x z : ℕ) (rest : List ℕ) → x ≤ 65535 → length (padded z x) ≤ 5 → digitsAhead rest ≡ [] → unpad (padded z x ++ rest) ≡ written x ++ unpad rest
 number x z rest h few e =
     let a : digitsAhead (padded z x ++ rest) ≡ padded z x = ahead-append (padded z x) rest (padded-all z x) e in
-    let p : plain (padded z x) ≡ written x = plain-form (padded z x) (padded-form z x h few) ∙ ap written (padded-value z x h) in
+    let p : plain (padded z x) ≡ written x = plain-form (padded z x) (padded-form z x h few) ∙ ap written (padded-value z x) in
     digits-first (padded z x ++ rest)
     ∙ (λ i. plain (a i) ++ unpad (drop (length (a i)) (padded z x ++ rest)))
     ∙ (λ i. p i ++ unpad (drop-append-seam (padded z x) rest i))
@@ -180,7 +180,7 @@ nothing = refl
 anywhere : (front : List ℕ) (b x z : ℕ) (rest : List ℕ) → isDigit b ≡ false → x ≤ 65535 → length (padded z x) ≤ 5 → digitsAhead rest ≡ [] → unpad (front ++ (b ∷ (padded z x ++ rest))) ≡ unpad (front ++ (b ∷ (written x ++ rest)))
 anywhere front b x z rest t h few e =
     byte front b (padded z x ++ rest) t
-    ∙ ap (λ (l : List ℕ). unpad front ++ (b ∷ l)) (number x z rest h few e ∙ sym (number x 0 rest h (length-written x h .1) e))
+    ∙ ap (λ (l : List ℕ). unpad front ++ (b ∷ l)) (number x z rest h few e ∙ sym (number x 0 rest h (written-most x h) e))
     ∙ sym (byte front b (written x ++ rest) t)
 
 -- ---- what has padding
@@ -204,17 +204,17 @@ none-padding : (d : ℕ) (ds : List ℕ) → AllDigits (d ∷ ds) → hasPadding
 none-padding d [] p h = refl
 none-padding d (e ∷ ds) p h = ap not (sym (and-true (eqb d 48)) ∙ ap (λ (t : Bool). eqb d 48 && t) (sym (p .1 .0 .test)) ∙ sym (padding-digits d (e ∷ ds) p) ∙ h)
 
-no-padding : (x : ℕ) → x ≤ 65535 → hasPadding (written x) ≡ false
-no-padding x h = padding-none (written x) (written-all x) (written-unpadded x h)
+no-padding : (x : ℕ) → hasPadding (written x) ≡ false
+no-padding x = padding-none (written x) (written-all x) (written-unpadded x)
 
 -- A zero in front of digits.
 zero-digits : (ds : List ℕ) → AllDigits ds → AllDigits (48 ∷ ds) → 0 < length ds → hasPadding (48 ∷ ds) ≡ true
 zero-digits [] p q h = absurd (omega arith)
 zero-digits (d ∷ ds) p q h = padding-digits 48 (d ∷ ds) q ∙ p .0 .test
 
-padding : (x z : ℕ) → x ≤ 65535 → 0 < z → hasPadding (padded z x) ≡ true
-padding x zero h some-zero = absurd (omega arith)
-padding x (suc z) h some-zero = zero-digits (padded z x) (padded-all z x) (padded-all (suc z) x) (omega (arith, length-append (replicate z 48) (written x), length-written x h .0))
+padding : (x z : ℕ) → 0 < z → hasPadding (padded z x) ≡ true
+padding x zero h = absurd (omega arith)
+padding x (suc z) h = zero-digits (padded z x) (padded-all z x) (padded-all (suc z) x) (omega (arith, length-append (replicate z 48) (written x), written-some x))
 
 -- Bytes in front of one that is no digit have their padding by themselves.
 zero-apart : (c : ℕ) (front : List ℕ) (b : ℕ) (rest : List ℕ) → isDigit b ≡ false → zeroFirst (c ∷ (front ++ (b ∷ rest))) ≡ zeroFirst (c ∷ front)
@@ -250,11 +250,11 @@ padding-claim = record { no-padding = no-padding; padding = padding; nothing = p
 -- ---- a text that has none
 plain-kept : (ds : List ℕ) → AllDigits ds → hasPadding ds ≡ false → plain ds ≡ ds
 plain-kept [] p h = refl
-plain-kept (d ∷ ds) p h = go (inForm (d ∷ ds)) refl
+plain-kept (d ∷ ds) p h = go (inForm (d ∷ ds))
   where
-    go : (t : Bool) → inForm (d ∷ ds) ≡ t → cond t (written (valueAfter 0 (d ∷ ds))) (d ∷ ds) ≡ d ∷ ds
-    go true e = written-again (d ∷ ds) p (none-padding d ds p h) (form-bounds (d ∷ ds) e .2)
-    go false e = refl
+    go : (t : Bool) → cond t (written (valueAfter 0 (d ∷ ds))) (d ∷ ds) ≡ d ∷ ds
+    go true = written-again (d ∷ ds) p (none-padding d ds p h)
+    go false = refl
 
 abbrev Kept : List ℕ → List ℕ → Type 0
 Kept ds l = unpadFrom ds l ≡ ds ++ l

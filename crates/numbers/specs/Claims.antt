@@ -1,14 +1,39 @@
--- What is claimed of numbers and of padding, as types; proofs/Numbers and proofs/Padding have the theorems. Callers rest on these and on no
--- definition of a number.
+-- What is claimed of lengths, of numbers and of padding, as types; proofs/Numbers and proofs/Padding have the theorems. Callers rest on these
+-- and on no definition of a number.
 use mathlib.Core.Path.{_≡_}
 use mathlib.Core.Logic.{_↔_}
-use mathlib.Core.Bool.{true, false, _||_}
+use mathlib.Core.Bool.{true, false, cond, _||_}
 use mathlib.Core.List.{List, [], _∷_, _++_}
 use mathlib.Core.Option.{none, some}
-use Prim.Native.Nat.{ℕ, _+_, _≤_, _<_}
+use Prim.Native.Nat.{ℕ, suc, _+_, _/_, _%_, _≤_, _<_}
+use lib.Dec.{ltb}
 use lib.ListN.{length, drop}
-use Rattle.numbers.specs.Decimal.{written, isDigit, digitsAhead, valueAfter, Field, numberAt}
+use Rattle.numbers.specs.Decimal.{decimalLength, digits, written, isDigit, digitsAhead, valueAfter, Field, numberAt}
 use Rattle.numbers.specs.Padding.{padded, hasPadding, unpad}
+
+-- ---- lengths
+-- How many of the limits, from the first on, are not above x.
+abbrev pub passed : ℕ → List ℕ → ℕ
+passed x [] = 0
+passed x (l ∷ ls) = cond (ltb x l) 0 (suc (passed x ls))
+
+-- A number's length by document 01: from a table of limits.
+abbrev pub tableLength : ℕ → ℕ
+tableLength x = suc (passed x (10 ∷ 100 ∷ 1000 ∷ 10000 ∷ []))
+
+-- A number below ten has length 1; any other is one longer than a tenth of it, remainder dropped. As many bytes are written. Every number that
+-- the writer takes has the same length as from the table, and so the same bytes.
+pub record LengthClaim : Type 0 where
+  pub below-ten : (x : ℕ) → x < 10 → decimalLength x ≡ 1
+  pub divided : (x : ℕ) → 10 ≤ x → decimalLength x ≡ suc (decimalLength (x / 10))
+  pub in-bytes : (x : ℕ) → length (written x) ≡ decimalLength x
+  pub from-table : (x : ℕ) → x ≤ 65535 → decimalLength x ≡ tableLength x
+  pub bytes-from-table : (x : ℕ) → x ≤ 65535 → written x ≡ digits (tableLength x) x
+
+-- What is written: of a number below ten its digit; of any other what is written of a tenth of it, and behind that the remainder's digit.
+pub record WritingClaim : Type 0 where
+  pub one : (x : ℕ) → x < 10 → written x ≡ (48 + x) ∷ []
+  pub more : (x : ℕ) → 10 ≤ x → written x ≡ written (x / 10) ++ ((48 + x % 10) ∷ [])
 
 -- ---- numbers
 -- A number stands at the place: some zeros and the number as it is written, five digits in all at most, and no digit behind them.
@@ -32,8 +57,8 @@ pub record NumberClaim : Type 0 where
 -- What is written of a number has no padding; behind zeros it has. The empty text has none, and two texts with a byte between them that is no
 -- digit have padding where either has.
 pub record PaddingClaim : Type 0 where
-  pub no-padding : (x : ℕ) → x ≤ 65535 → hasPadding (written x) ≡ false
-  pub padding : (x z : ℕ) → x ≤ 65535 → 0 < z → hasPadding (padded z x) ≡ true
+  pub no-padding : (x : ℕ) → hasPadding (written x) ≡ false
+  pub padding : (x z : ℕ) → 0 < z → hasPadding (padded z x) ≡ true
   pub nothing : hasPadding [] ≡ false
   pub byte : (front : List ℕ) (b : ℕ) (rest : List ℕ) → isDigit b ≡ false → hasPadding (front ++ (b ∷ rest)) ≡ (hasPadding front || hasPadding rest)
 

@@ -8,18 +8,14 @@ use lib.ListN.{length, drop}
 use Rattle.lists.specs.Words.{pasted}
 
 -- ---- writing
--- The table of limits.
-abbrev pub limits : List ℕ
-limits = 10 ∷ 100 ∷ 1000 ∷ 10000 ∷ []
+-- How often x can be divided by ten, remainders dropped, before it is below ten; k times at most.
+abbrev pub divisions : ℕ → ℕ → ℕ
+divisions zero x = 0
+divisions (suc k) x = cond (ltb x 10) 0 (suc (divisions k (x / 10)))
 
--- How many of the limits, from the first on, are not above x.
-abbrev pub passed : ℕ → List ℕ → ℕ
-passed x [] = 0
-passed x (l ∷ ls) = cond (ltb x l) 0 (suc (passed x ls))
-
--- A number's length, from the table of limits.
+-- A number's length: one more. The number itself is bound enough, since each division makes it less.
 unfoldable pub decimalLength : ℕ → ℕ
-decimalLength x = suc (passed x limits)
+decimalLength x = suc (divisions x x)
 
 -- The last k digits of x.
 abbrev pub digits : ℕ → ℕ → List ℕ

@@ -1,10 +1,13 @@
--- Numbers as a text has them, and what is found there: a table.
+-- Numbers as a text has them, and what is found there; numbers, and what is written of them: two tables.
 use mathlib.Core.Path.{_≡_}
 use mathlib.Core.List.{List, [], _∷_}
 use mathlib.Core.Option.{Option, none, some}
 use Prim.Native.Nat.{ℕ}
-use Rattle.numbers.specs.Decimal.{Field, numberAt}
+use lib.ListN.{length}
+use Rattle.numbers.specs.Decimal.{decimalLength, written, Field, numberAt}
+use Rattle.numbers.specs.Claims.{tableLength}
 
+-- ---- reading
 -- A text, and the number at its first place, or none.
 pub record Example : Type 0 where
   pub text : List ℕ
@@ -35,3 +38,32 @@ examples =
 abbrev pub Said : List Example → Type 0
 Said [] = Unit {0}
 Said (e ∷ es) = (numberAt (e .text) 0 ≡ e .says) × Said es
+
+-- ---- writing
+-- A number, and its bytes.
+pub record Sample : Type 0 where
+  pub number : ℕ
+  pub bytes : List ℕ
+
+abbrev sample : ℕ → List ℕ → Sample
+sample x bytes = record { number = x; bytes = bytes }
+
+-- The least and the greatest number of each length.
+abbrev pub samples : List Sample
+samples =
+    sample 0 (48 ∷ [])
+    ∷ sample 9 (57 ∷ [])
+    ∷ sample 10 (49 ∷ 48 ∷ [])
+    ∷ sample 99 (57 ∷ 57 ∷ [])
+    ∷ sample 100 (49 ∷ 48 ∷ 48 ∷ [])
+    ∷ sample 999 (57 ∷ 57 ∷ 57 ∷ [])
+    ∷ sample 1000 (49 ∷ 48 ∷ 48 ∷ 48 ∷ [])
+    ∷ sample 9999 (57 ∷ 57 ∷ 57 ∷ 57 ∷ [])
+    ∷ sample 10000 (49 ∷ 48 ∷ 48 ∷ 48 ∷ 48 ∷ [])
+    ∷ sample 65535 (54 ∷ 53 ∷ 53 ∷ 51 ∷ 53 ∷ [])
+    ∷ []
+
+-- Each is as long as its bytes, by the formula and from the table, and is written with them.
+abbrev pub Written : List Sample → Type 0
+Written [] = Unit {0}
+Written (s ∷ ss) = ((decimalLength (s .number) ≡ length (s .bytes)) × (tableLength (s .number) ≡ length (s .bytes)) × (written (s .number) ≡ s .bytes)) × Written ss

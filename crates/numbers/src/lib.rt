@@ -10,20 +10,17 @@ pub enum Number {
     Out,
 }
 
-const LIMITS: [u16; 4] = [10, 100, 1000, 10000];
-
-// How many digits x has, by the table of limits.
+// How many digits x has: one more than the times it can be divided by ten before it is below ten.
 fn decimal_length(x: u16) -> usize
     ensures { λ r. ⌜ r ≡ decimalLength x ⌝ }
 {
-    let mut k: usize = 0;
-    while k < 4 {
-        if x < LIMITS[k] {
-            return k + 1;
-        }
+    let mut part = x;
+    let mut k: usize = 1;
+    while part >= 10 {
+        part = part / 10;
         k += 1;
     }
-    5
+    k
 }
 
 // Writes x into the area from place at on, where there is room for it, and gives the place past it; else writes nothing and gives at.

@@ -81,7 +81,7 @@ module _ (text after tail marks events : List ℕ) (p : Listing) (e : reading te
   L = load-claim text after tail p e
 
   -- It is within the limits, and fits the areas.
-  pub F : Fits p after tail
+  F : Fits p after tail
   F = loaded-fits text after tail p e
 
   -- Its walk can be opened.
@@ -95,7 +95,7 @@ module _ (text after tail marks events : List ℕ) (p : Listing) (e : reading te
       taken-sound g (p .start) areas .1 (L .profile-sound, λ i. a i || (t i || (k i || (v i || false))))
 
   -- A sound image, and a start in it.
-  pub P : Profile g (p .start) areas
+  P : Profile g (p .start) areas
   unfolding openNumber
   P = profile-sound g (p .start) areas opens
 
@@ -123,11 +123,11 @@ module _ (text after tail marks events : List ℕ) (p : Listing) (e : reading te
   h = depthWalk g (p .start)
 
   -- The two walks are one.
-  pub same-walk : h ≡ walkFrom p
+  same-walk : h ≡ walkFrom p
   same-walk = sym (renamed-same h) ∙ depth-renamed same-graph [] (p .start) (P .start-vertex)
 
   -- The elements that it reaches have the same lists.
-  pub same-met : met (graphOf g) (labelled h) ≡ met (graphFrom p) (labelled h)
+  same-met : met (graphOf g) (labelled h) ≡ met (graphFrom p) (labelled h)
   same-met =
       let R = profile-ready g (P .sound) (p .start) (P .start-vertex) in
       let N = reached-labels (graphOf g) [] (p .start) R (labelled h) (depth-first (graphOf g) [] (p .start) R .complete .labels) in

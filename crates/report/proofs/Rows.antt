@@ -1,19 +1,17 @@
--- Bytes printed one behind the other, and the lines of events: how they go on, and how long they are.
+-- Bytes printed one behind the other, and the lines of events: how they go on.
 use mathlib.Core.Path.{_≡_, refl, sym, ap, _∙_, subst}
-use mathlib.Core.Bool.{Bool, true, false, cond}
 use mathlib.Core.List.{List, [], _∷_, _++_, append-assoc, append-nil}
 use Prim.Native.Nat.{ℕ, zero, suc, _+_, _*_, _≤_, _<_}
 use native.Mathlib.Omega.{arith}
 use native.Mathlib.Nat.{add-zero}
-use lib.Dec.{ltb}
-use lib.ListN.{length, getD, set, take, drop, replicate, length-append, length-take, length-replicate}
+use lib.ListN.{length, getD, set, take, drop, replicate, length-append, length-replicate}
 use lib.Seq.{length-take-le, take-suc, take-all, take-append-seam, append-snoc}
 use borrow.Author.Tests.{le-leb, lt-leb}
 use Rattle.lists.specs.Words.{overlay, pasted}
 use Rattle.lists.proofs.Words.{pasted-front, pasted-none, pasted-next, pasted-pasted, length-pasted}
 use Rattle.graphs.specs.Events.{Event, event, code, words}
-use Rattle.numbers.specs.Decimal.{limits, passed, decimalLength, written, putAt, pastAt}
-use Rattle.numbers.proofs.Numbers.{length-digits}
+use Rattle.numbers.specs.Decimal.{written, putAt, pastAt}
+use Rattle.numbers.proofs.Numbers.{number-claim}
 use Rattle.texts.specs.Text.{comma, lineFeed, row}
 use Rattle.report.specs.declared.walk.Totals.{Totals}
 use Rattle.report.specs.Printed.{eventNames, totalNames, refusedName, eventRows, refusalPrinted}
@@ -29,36 +27,6 @@ printed-room bytes at area h = rw (le-leb (at + length bytes) (length area) h) (
 pub printed-none : (bytes : List ℕ) (at : ℕ) (area : List ℕ) → length area < at + length bytes → (pastAt bytes at area ≡ at) × (putAt bytes at area ≡ area)
 unfolding putAt pastAt
 printed-none bytes at area h = rw (lt-leb (at + length bytes) (length area) h) (refl, refl)
-
--- ---- lengths
--- No more limits are passed than there are.
-passed-most : (x : ℕ) (ls : List ℕ) → passed x ls ≤ length ls
-passed-most x [] = omega arith
-passed-most x (l ∷ ls) = go (ltb x l) (passed-most x ls)
-  where
-    go : (t : Bool) → passed x ls ≤ length ls → cond t 0 (suc (passed x ls)) ≤ suc (length ls)
-    go true h = omega arith
-    go false h = omega arith
-
--- A number has at most 5 bytes.
-number-most : (x : ℕ) → length (written x) ≤ 5
-unfolding written decimalLength
-number-most x = omega (arith, length-digits (decimalLength x) x, passed-most x limits)
-
--- A line of three numbers has at most 18.
-row-most : (a b c : ℕ) → length (row (a ∷ b ∷ c ∷ [])) ≤ 18
-row-most a b c = simp length-append (omega (arith, number-most a, number-most b, number-most c))
-
--- The lines of events have at most 6 for each word.
-rows-length : (ws : List ℕ) → length (rows ws) ≤ 6 * length ws
-rows-length [] = omega arith
-rows-length (k ∷ []) = omega arith
-rows-length (k ∷ r ∷ []) = omega arith
-rows-length (k ∷ r ∷ u ∷ ws) = let h = rows-length ws in omega (arith, length-append (row (k ∷ r ∷ u ∷ [])) (rows ws), row-most k r u)
-
--- Those of k events have at most 18 for each.
-pub rows-most : (ws : List ℕ) (k : ℕ) → length (rows (take (3 * k) ws)) ≤ 18 * k
-rows-most ws k = omega (arith, rows-length (take (3 * k) ws), length-take (3 * k) ws)
 
 -- ---- lines of events
 -- The lines of words, from their events.
@@ -143,34 +111,25 @@ module _ (at : ℕ) (bytes start area : List ℕ) (i : ℕ) (W : Wrote at start 
   copied-all e = (ap (λ (k : ℕ). at + k) e, W .1 ∙ ap (λ (l : List ℕ). pasted at l start) (take-all i bytes (omega arith)))
 
 -- ---- a number and the byte behind it
-module _ (x at next : ℕ) (start area : List ℕ) (h : at + 6 ≤ length start) (e : next ≡ pastAt (written x) at start) (q : area ≡ putAt (written x) at start) where
+module _ (x at next : ℕ) (fits : x ≤ 65535) (start area : List ℕ) (h : at + 6 ≤ length start) (e : next ≡ pastAt (written x) at start) (q : area ≡ putAt (written x) at start) where
   -- The number.
   number-wrote : Wrote at start (written x) next area
-  number-wrote = let r = printed-room (written x) at start (omega (arith, number-most x)) in (e ∙ r .0, q ∙ r .1)
+  number-wrote = let r = printed-room (written x) at start (omega (arith, number-claim .size x fits .1)) in (e ∙ r .0, q ∙ r .1)
 
-  -- There is room for the byte.
-  pub number-within : next < length start
-  number-within = omega (arith, number-wrote .0, number-most x)
+  -- With the byte behind it there are at most 6.
+  pub number-near : next + 1 ≤ at + 6
+  number-near = omega (arith, number-wrote .0, number-claim .size x fits .1)
 
   -- The number and the byte.
   pub field-wrote : (stop : ℕ) → Wrote at start (written x ++ (stop ∷ [])) (next + 1) (set area next stop)
-  field-wrote stop = wrote-byte at start (written x) next area number-wrote stop number-within
-
--- They are at most 6 bytes.
-field-most : (x stop : ℕ) → length (written x ++ (stop ∷ [])) ≤ 6
-field-most x stop = omega (arith, length-append (written x) (stop ∷ []), number-most x)
-
--- So the place past them is.
-pub field-ends : (x stop at next : ℕ) → next ≡ at + length (written x ++ (stop ∷ [])) → next ≤ at + 6
-field-ends x stop at next e = omega (arith, field-most x stop)
+  field-wrote stop = wrote-byte at start (written x) next area number-wrote stop (omega (arith, number-near))
 
 -- ---- lines
 -- Three numbers make a line.
-pub row-wrote : (a b c at p q r : ℕ) (start s t u : List ℕ) → at + 18 ≤ length start → Wrote at start (written a ++ (comma ∷ [])) p s → Wrote p s (written b ++ (comma ∷ [])) q t → Wrote q t (written c ++ (lineFeed ∷ [])) r u → Wrote at start (row (a ∷ b ∷ c ∷ [])) r u
-row-wrote a b c at p q r start s t u h A B C =
-    let i = field-most a comma in
-    let j = field-most b comma in
+pub row-wrote : (a b c at p q r : ℕ) (start s t u : List ℕ) → at + 18 ≤ length start → p ≤ at + 6 → q ≤ p + 6 → Wrote at start (written a ++ (comma ∷ [])) p s → Wrote p s (written b ++ (comma ∷ [])) q t → Wrote q t (written c ++ (lineFeed ∷ [])) r u → Wrote at start (row (a ∷ b ∷ c ∷ [])) r u
+row-wrote a b c at p q r start s t u h i j A B C =
     let n = A .0 in
+    let o = B .0 in
     let m = wrote-same at start (written a ++ (comma ∷ [])) p s A (omega arith) in
     let W = wrote-more at start (written a ++ (comma ∷ [])) p s A (omega arith) _ r u (wrote-more p s (written b ++ (comma ∷ [])) q t B (omega arith) _ r u C) in
     let e : (written a ++ (comma ∷ [])) ++ ((written b ++ (comma ∷ [])) ++ (written c ++ (lineFeed ∷ []))) ≡ row (a ∷ b ∷ c ∷ []) =
@@ -183,10 +142,10 @@ pub lines-none : (ws : List ℕ) (at : ℕ) (start : List ℕ) → Wrote at star
 lines-none ws at start = (sym (add-zero at), sym (pasted-none at start))
 
 -- A line more.
-pub lines-next : (ws : List ℕ) (i at p q : ℕ) (start s t : List ℕ) → 3 * i + 3 ≤ length ws → at + 18 * i ≤ length start → Wrote at start (rows (take (3 * i) ws)) p s → Wrote p s (row (getD ws (3 * i) 0 ∷ getD ws (3 * i + 1) 0 ∷ getD ws (3 * i + 2) 0 ∷ [])) q t → Wrote at start (rows (take (3 * (i + 1)) ws)) q t
+pub lines-next : (ws : List ℕ) (i at p q : ℕ) (start s t : List ℕ) → 3 * i + 3 ≤ length ws → p ≤ length start → Wrote at start (rows (take (3 * i) ws)) p s → Wrote p s (row (getD ws (3 * i) 0 ∷ getD ws (3 * i + 1) 0 ∷ getD ws (3 * i + 2) 0 ∷ [])) q t → Wrote at start (rows (take (3 * (i + 1)) ws)) q t
 lines-next ws i at p q start s t h k W N =
     let e = sym (rows-next ws i h) in
-    let A = wrote-more at start (rows (take (3 * i) ws)) p s W (omega (arith, rows-most ws i)) _ q t N in
+    let A = wrote-more at start (rows (take (3 * i) ws)) p s W (omega (arith, W .0)) _ q t N in
     (A .0 ∙ ap (λ (l : List ℕ). at + length l) e, A .1 ∙ ap (λ (l : List ℕ). pasted at l start) e)
 
 -- All of them.
@@ -207,14 +166,14 @@ parts-wrote a b c d start s t u v n m p q h A B C D =
     (omega (arith, W .0), W .1 ∙ pasted-front (a ++ (b ++ (c ++ d))) start)
 
 -- What is printed of a walk.
-pub walk-wrote : (ws : List ℕ) (t : Totals) (start r s u v : List ℕ) (n m p q : ℕ) → 18 * t .events + 66 ≤ length start → Wrote 0 start eventNames n r → Wrote n r (rows (take (3 * t .events) ws)) m s → Wrote m s totalNames p u → Wrote p u (row (t .elements ∷ t .moves ∷ t .circular ∷ [])) q v → (q ≡ length (printedFrom ws t)) × (v ≡ overlay (printedFrom ws t) start)
-walk-wrote ws t start r s u v n m p q h A B C D =
+pub walk-wrote : (ws : List ℕ) (t : Totals) (start r s u v : List ℕ) (n m p q : ℕ) → 18 * t .events + 66 ≤ length start → m ≤ n + 18 * t .events → q ≤ p + 18 → Wrote 0 start eventNames n r → Wrote n r (rows (take (3 * t .events) ws)) m s → Wrote m s totalNames p u → Wrote p u (row (t .elements ∷ t .moves ∷ t .circular ∷ [])) q v → (q ≡ length (printedFrom ws t)) × (v ≡ overlay (printedFrom ws t) start)
+walk-wrote ws t start r s u v n m p q h near last-near A B C D =
     let lines = rows (take (3 * t .events) ws) in
     let last = row (t .elements ∷ t .moves ∷ t .circular ∷ []) in
     let i = length-append eventNames (lines ++ (totalNames ++ last)) in
     let j = length-append lines (totalNames ++ last) in
     let k = length-append totalNames last in
-    parts-wrote eventNames lines totalNames last start r s u v n m p q (omega (arith, rows-most ws (t .events), row-most (t .elements) (t .moves) (t .circular))) A B C D
+    parts-wrote eventNames lines totalNames last start r s u v n m p q (omega (arith, A .0, B .0, C .0, D .0)) A B C D
 
 -- ---- a refusal
 -- A line is made: it is the first q bytes of an area of 14.
@@ -225,12 +184,11 @@ pub record Made (bytes : List ℕ) (q : ℕ) (area : List ℕ) : Type 0 where
   pub room : length area ≡ 14
 
 -- It is made of the name, a number and a byte.
-pub line-made : (k stop p q : ℕ) (s t : List ℕ) → Wrote 0 (replicate 14 0) refusedName p s → Wrote p s (written k ++ (stop ∷ [])) q t → Made (refusedName ++ (written k ++ (stop ∷ []))) q t
-line-made k stop p q s t A B =
+pub line-made : (k stop p q : ℕ) (s t : List ℕ) → q ≤ p + 6 → Wrote 0 (replicate 14 0) refusedName p s → Wrote p s (written k ++ (stop ∷ [])) q t → Made (refusedName ++ (written k ++ (stop ∷ []))) q t
+line-made k stop p q s t i A B =
     let start : List ℕ = replicate 14 0 in
     let bytes : List ℕ = refusedName ++ (written k ++ (stop ∷ [])) in
     let h : length start ≡ 14 = length-replicate {A = ℕ} 14 0 in
-    let i = field-most k stop in
     let n = A .0 in
     let m = B .0 in
     let f = wrote-same 0 start refusedName p s A (omega arith) in

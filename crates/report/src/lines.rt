@@ -28,6 +28,7 @@ fn write_bytes(bytes: &[u8], output: &mut [u8], at: usize) -> usize
 // Writes a number and the byte stop behind it from place at on, and gives the place past them.
 fn write_field(x: u16, stop: u8, output: &mut [u8], at: usize) -> usize
     requires { ⌜ at + 6 ≤ length (now output) ⌝ }
+    ensures near { λ r. ⌜ r ≤ at + 6 ⌝ }
     ensures next { λ r. ⌜ r ≡ at + length (written x ++ (stop ∷ [])) ⌝ }
     ensures words { λ r. ⌜ now (output .exit) ≡ pasted at (written x ++ (stop ∷ [])) (now (output .entry)) ⌝ }
 {
@@ -39,6 +40,7 @@ fn write_field(x: u16, stop: u8, output: &mut [u8], at: usize) -> usize
 // Writes a line of three numbers from place at on, and gives the place past it.
 fn write_row(a: u16, b: u16, c: u16, output: &mut [u8], at: usize) -> usize
     requires { ⌜ at + 18 ≤ length (now output) ⌝ }
+    ensures near { λ r. ⌜ r ≤ at + 18 ⌝ }
     ensures next { λ r. ⌜ r ≡ at + length (row (a ∷ b ∷ c ∷ [])) ⌝ }
     ensures words { λ r. ⌜ now (output .exit) ≡ pasted at (row (a ∷ b ∷ c ∷ [])) (now (output .entry)) ⌝ }
 {
@@ -50,6 +52,7 @@ fn write_row(a: u16, b: u16, c: u16, output: &mut [u8], at: usize) -> usize
 // Writes the lines of the first `made` events from place at on, and gives the place past them.
 fn write_rows(events: &[u16], made: usize, output: &mut [u8], at: usize) -> usize
     requires { ⌜ (3 * made ≤ length (now events)) × (at + 18 * made ≤ length (now output)) ⌝ }
+    ensures near { λ r. ⌜ r ≤ at + 18 * made ⌝ }
     ensures next { λ r. ⌜ r ≡ at + length (rows (take (3 * made) (now (events .entry)))) ⌝ }
     ensures words { λ r. ⌜ now (output .exit) ≡ pasted at (rows (take (3 * made) (now (events .entry)))) (now (output .entry)) ⌝ }
 {

@@ -3,13 +3,13 @@
 use mathlib.Core.Path.{_≡_, refl, ap, _∙_}
 use mathlib.Core.Bool.{Bool, true, false, not, _&&_, _||_}
 use mathlib.Core.List.{List, [], _∷_, _++_, append-assoc}
-use Prim.Native.Nat.{ℕ, _≤_}
+use Prim.Native.Nat.{ℕ}
 use borrow.Author.Tests.{not-true}
 use Rattle.lists.proofs.Tests.{both}
 use Rattle.numbers.specs.Decimal.{written, isDigit}
 use Rattle.numbers.specs.Padding.{hasPadding, unpad}
 use Rattle.numbers.proofs.Padding.{padding-claim, unpad-claim}
-use Rattle.texts.specs.Text.{Line, Listing, comma, lineFeed, elementNames, lineNames, row, linesText, textOf, Short, Writable}
+use Rattle.texts.specs.Text.{Line, Listing, comma, lineFeed, elementNames, lineNames, row, linesText, textOf}
 
 -- ---- names
 -- No byte of a name is a digit.
@@ -36,29 +36,24 @@ names-kept (x ∷ xs) rest e =
     byte-kept x (xs ++ rest) (not-true (isDigit x) (q .0)) ∙ ap (λ (l : List ℕ). x ∷ l) (names-kept xs rest (q .1))
 
 -- ---- lines of values
--- The numbers are at most 65,535.
-abbrev pub Fit : List ℕ → Type 0
-Fit [] = Unit {0}
-Fit (x ∷ xs) = (x ≤ 65535) × Fit xs
+field-plain : (x stop : ℕ) (rest : List ℕ) → isDigit stop ≡ false → hasPadding (written x ++ stop ∷ rest) ≡ hasPadding rest
+field-plain x stop rest e = padding-claim .byte (written x) stop rest e ∙ ap (λ (t : Bool). t || hasPadding rest) (padding-claim .no-padding x)
 
-field-plain : (x stop : ℕ) (rest : List ℕ) → x ≤ 65535 → isDigit stop ≡ false → hasPadding (written x ++ stop ∷ rest) ≡ hasPadding rest
-field-plain x stop rest h e = padding-claim .byte (written x) stop rest e ∙ ap (λ (t : Bool). t || hasPadding rest) (padding-claim .no-padding x h)
+pub row-plain : (xs rest : List ℕ) → hasPadding (row xs ++ rest) ≡ hasPadding rest
+row-plain [] rest = byte-plain lineFeed rest refl
+row-plain (x ∷ []) rest = ap hasPadding (append-assoc (written x) (lineFeed ∷ []) rest) ∙ field-plain x lineFeed rest refl
+row-plain (x ∷ y ∷ ys) rest = ap hasPadding (append-assoc (written x) (comma ∷ row (y ∷ ys)) rest) ∙ field-plain x comma (row (y ∷ ys) ++ rest) refl ∙ row-plain (y ∷ ys) rest
 
-pub row-plain : (xs rest : List ℕ) → Fit xs → hasPadding (row xs ++ rest) ≡ hasPadding rest
-row-plain [] rest f = byte-plain lineFeed rest refl
-row-plain (x ∷ []) rest f = ap hasPadding (append-assoc (written x) (lineFeed ∷ []) rest) ∙ field-plain x lineFeed rest (f .0) refl
-row-plain (x ∷ y ∷ ys) rest f = ap hasPadding (append-assoc (written x) (comma ∷ row (y ∷ ys)) rest) ∙ field-plain x comma (row (y ∷ ys) ++ rest) (f .0) refl ∙ row-plain (y ∷ ys) rest (f .1)
-
-lines-plain : (ls : List Line) → Short ls → hasPadding (linesText ls) ≡ false
-lines-plain [] f = padding-claim .nothing
-lines-plain (l ∷ ls) f = row-plain (l .from ∷ l .to ∷ []) (linesText ls) (f .0, (f .1, tt)) ∙ lines-plain ls (f .2)
+lines-plain : (ls : List Line) → hasPadding (linesText ls) ≡ false
+lines-plain [] = padding-claim .nothing
+lines-plain (l ∷ ls) = row-plain (l .from ∷ l .to ∷ []) (linesText ls) ∙ lines-plain ls
 
 -- ---- a profile
-pub no-padding : (p : Listing) → Writable p → hasPadding (textOf p) ≡ false
+pub no-padding : (p : Listing) → hasPadding (textOf p) ≡ false
 unfolding textOf
-no-padding p w =
+no-padding p =
     let lines = linesText (p .lines) in
     names-plain elementNames (row (p .n ∷ p .m ∷ p .start ∷ []) ++ (lineNames ++ lines)) refl
-    ∙ row-plain (p .n ∷ p .m ∷ p .start ∷ []) (lineNames ++ lines) (w .n-fits, (w .m-fits, (w .start-fits, tt)))
+    ∙ row-plain (p .n ∷ p .m ∷ p .start ∷ []) (lineNames ++ lines)
     ∙ names-plain lineNames lines refl
-    ∙ lines-plain (p .lines) (w .lines-fit)
+    ∙ lines-plain (p .lines)

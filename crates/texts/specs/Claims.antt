@@ -18,7 +18,7 @@ use Rattle.texts.specs.Loading.{loaded, reading, edgesFrom, tailOf, imag
 -- padding only say the same, and none is in form alone. A text has at most 12 bytes for each reference, and 52 more.
 pub record TextClaim : Type 0 where
   pub says : (text : List ℕ) (p : Listing) → (listingOf text ≡ some p) ↔ (Writable p × (unpad text ≡ textOf p))
-  pub no-padding : (p : Listing) → Writable p → hasPadding (textOf p) ≡ false
+  pub no-padding : (p : Listing) → hasPadding (textOf p) ≡ false
   pub alike : (s t : List ℕ) → unpad s ≡ unpad t → listingOf s ≡ listingOf t
   pub longest : (text : List ℕ) (p : Listing) → listingOf text ≡ some p → length text ≤ 12 * p .m + 52
 

@@ -1,7 +1,6 @@
 -- `print_walk` writes four parts one behind the other: names, the lines of events, names, the line of totals.
-use native.Mathlib.Omega.{arith}
 use borrow.Author.Needs.{needs}
-use Rattle.report.proofs.Rows.{rows-most, walk-wrote}
+use Rattle.report.proofs.Rows.{walk-wrote}
 use Rattle.report.proofs.lines.print_walk.Statement.{statement}
 use Rattle.report.proofs.lines.print_walk.Tie as tie
 
@@ -18,10 +17,10 @@ slice-aggregate-write-bytes-2 : tie.Need-slice-aggregate-write-bytes-2
 slice-aggregate-write-bytes-2 c = search needs
 
 write-bytes-requires-2 : tie.Need-write-bytes-requires-2
-write-bytes-requires-2 c κs = let z = c .before .before .before .before .before .before .before .before .before .before .before .before .before .args in omega (arith, rows-most (z .events .now) (z .t .events))
+write-bytes-requires-2 c κs = search needs
 
 write-row-requires : tie.Need-write-row-requires
-write-row-requires c κs = let z = c .before .before .before .before .before .before .before .before .before .before .before .before .before .before .before .before .before .args in omega (arith, rows-most (z .events .now) (z .t .events))
+write-row-requires c κs = search needs
 
 same-length : tie.Need-same-length
 same-length c = search needs
@@ -33,7 +32,7 @@ returns c =
     let q = c .before .before .before .before .before .before .before .before .before .before .before .write-rows in
     let r = c .before .before .before .before .before .before .write-bytes2 in
     let w = c .before .before .write-row in
-    walk-wrote (z .events .now) (z .t) (z .output .now) (p .last .1 .0) (q .last .1 .1 .0) (r .last .1 .0) (w .last .1 .1 .1 .0) (p .result) (q .result) (r .result) (w .result) (c .before .before .before .before .before .before .before .before .before .before .before .before .before .before .before .before .before .before .before .before .pre .1) (p .ensures) (q .ensures) (r .ensures) (w .ensures)
+    walk-wrote (z .events .now) (z .t) (z .output .now) (p .last .1 .0) (q .last .1 .1 .0) (r .last .1 .0) (w .last .1 .1 .1 .0) (p .result) (q .result) (r .result) (w .result) (c .before .before .before .before .before .before .before .before .before .before .before .before .before .before .before .before .before .before .before .before .pre .1) (q .ensures .0) (w .ensures .0) (p .ensures) (q .ensures .1) (r .ensures) (w .ensures .1)
 
 pub print-walk-spec : {M : Type 1} → statement M
 print-walk-spec =

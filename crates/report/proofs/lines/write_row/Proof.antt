@@ -1,7 +1,7 @@
 -- `write_row` writes a line of three numbers, each with the byte behind it.
 use native.Mathlib.Omega.{arith}
 use borrow.Author.Needs.{needs}
-use Rattle.report.proofs.Rows.{field-ends, row-wrote}
+use Rattle.report.proofs.Rows.{row-wrote}
 use Rattle.report.proofs.lines.write_row.Statement.{statement}
 use Rattle.report.proofs.lines.write_row.Tie as tie
 
@@ -10,16 +10,14 @@ write-field-requires c κs = search needs
 
 write-field-requires-2 : tie.Need-write-field-requires-2
 write-field-requires-2 c κs =
-    let z = c .before .before .before .before .before .before .args in
     let p = c .before .before .before .write-field in
-    omega (arith, field-ends (z .a) _ (z .at) (p .result) (p .ensures .0))
+    omega (arith, p .ensures .0)
 
 write-field-requires-3 : tie.Need-write-field-requires-3
 write-field-requires-3 c κs =
-    let z = c .before .before .before .before .before .before .before .before .before .before .args in
     let p = c .before .before .before .before .before .before .before .write-field in
     let q = c .before .before .before .write-field2 in
-    omega (arith, field-ends (z .a) _ (z .at) (p .result) (p .ensures .0), field-ends (z .b) _ (p .result) (q .result) (q .ensures .0))
+    omega (arith, p .ensures .0, q .ensures .0)
 
 same-length : tie.Need-same-length
 same-length c = search needs
@@ -30,7 +28,8 @@ returns c =
     let p = c .before .before .before .before .before .before .before .before .before .before .write-field in
     let q = c .before .before .before .before .before .before .write-field2 in
     let r = c .before .before .write-field3 in
-    row-wrote (z .a) (z .b) (z .c) (z .at) (p .result) (q .result) (r .result) (z .output .now) (p .last .1 .1 .0) (q .last .1 .1 .0) (r .last .1 .1 .0) (c .before .before .before .before .before .before .before .before .before .before .before .before .before .pre) (p .ensures) (q .ensures) (r .ensures)
+    let w = row-wrote (z .a) (z .b) (z .c) (z .at) (p .result) (q .result) (r .result) (z .output .now) (p .last .1 .1 .0) (q .last .1 .1 .0) (r .last .1 .1 .0) (c .before .before .before .before .before .before .before .before .before .before .before .before .before .pre) (p .ensures .0) (q .ensures .0) (p .ensures .1) (q .ensures .1) (r .ensures .1) in
+    (omega (arith, p .ensures .0, q .ensures .0, r .ensures .0), w)
 
 pub write-row-spec : {M : Type 1} → statement M
 write-row-spec = tie.close (tie.spec write-field-requires write-field-requires-2 write-field-requires-3 same-length returns)
