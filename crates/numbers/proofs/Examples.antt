@@ -2,12 +2,12 @@
 -- By computation on the definitions.
 use mathlib.Core.Path.{refl}
 use Rattle.numbers.specs.Decimal.{decimalLength, written, numberAt}
-use Rattle.numbers.specs.Examples.{examples, Said, samples, Written}
+use Rattle.numbers.specs.Examples.{examples, Said, samples, AsWritten}
 
 pub examples-said : Said examples
 unfolding numberAt
 examples-said = (refl, (refl, (refl, (refl, (refl, (refl, (refl, (refl, (refl, (refl, tt))))))))))
 
-pub samples-written : Written samples
+pub samples-written : AsWritten samples
 unfolding decimalLength written
 samples-written = ((refl, refl, refl), ((refl, refl, refl), ((refl, refl, refl), ((refl, refl, refl), ((refl, refl, refl), ((refl, refl, refl), ((refl, refl, refl), ((refl, refl, refl), ((refl, refl, refl), ((refl, refl, refl), tt))))))))))

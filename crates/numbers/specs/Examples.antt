@@ -64,6 +64,6 @@ samples =
     ∷ []
 
 -- Each is as long as its bytes, by the formula and from the table, and is written with them.
-abbrev pub Written : List Sample → Type 0
-Written [] = Unit {0}
-Written (s ∷ ss) = ((decimalLength (s .number) ≡ length (s .bytes)) × (tableLength (s .number) ≡ length (s .bytes)) × (written (s .number) ≡ s .bytes)) × Written ss
+abbrev pub AsWritten : List Sample → Type 0
+AsWritten [] = Unit {0}
+AsWritten (s ∷ ss) = ((decimalLength (s .number) ≡ length (s .bytes)) × (tableLength (s .number) ≡ length (s .bytes)) × (written (s .number) ≡ s .bytes)) × AsWritten ss

@@ -1,4 +1,4 @@
--- Document 01's printed example, by computation.
+-- Document 01's printed example: by computation, numbers from the claim of what is written.
 use mathlib.Core.Path.{_≡_, refl, ap, _∙_}
 use mathlib.Core.List.{List, [], _∷_, _++_}
 use mathlib.Core.Option.{some}
