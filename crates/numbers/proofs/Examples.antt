@@ -2,12 +2,12 @@
 -- By computation on the definitions.
 use mathlib.Core.Path.{refl}
 use Rattle.numbers.specs.Decimal.{decimalLength, written, numberAt}
-use Rattle.numbers.specs.Examples.{examples, Said, samples, AsWritten}
+use Rattle.numbers.specs.Examples.{examples, Said, SamplesClaim}
 
 pub examples-said : Said examples
 unfolding numberAt
 examples-said = (refl, (refl, (refl, (refl, (refl, (refl, (refl, (refl, (refl, (refl, tt))))))))))
 
-pub samples-written : AsWritten samples
+pub samples-claim : SamplesClaim
 unfolding decimalLength written
-samples-written = ((refl, refl, refl), ((refl, refl, refl), ((refl, refl, refl), ((refl, refl, refl), ((refl, refl, refl), ((refl, refl, refl), ((refl, refl, refl), ((refl, refl, refl), ((refl, refl, refl), ((refl, refl, refl), tt))))))))))
+samples-claim = record { by-formula = refl; from-table = refl; as-written = refl }

@@ -1,6 +1,6 @@
 -- Numbers as a text has them, and what is found there; numbers, and what is written of them: two tables.
 use mathlib.Core.Path.{_≡_}
-use mathlib.Core.List.{List, [], _∷_}
+use mathlib.Core.List.{List, [], _∷_, map}
 use mathlib.Core.Option.{Option, none, some}
 use Prim.Native.Nat.{ℕ}
 use lib.ListN.{length}
@@ -63,7 +63,8 @@ samples =
     ∷ sample 65535 (54 ∷ 53 ∷ 53 ∷ 51 ∷ 53 ∷ [])
     ∷ []
 
--- Each is as long as its bytes, by the formula and from the table, and is written with them.
-abbrev pub AsWritten : List Sample → Type 0
-AsWritten [] = Unit {0}
-AsWritten (s ∷ ss) = ((decimalLength (s .number) ≡ length (s .bytes)) × (tableLength (s .number) ≡ length (s .bytes)) × (written (s .number) ≡ s .bytes)) × AsWritten ss
+-- By the formula and from the table each is as long as its bytes, and these are written.
+pub record SamplesClaim : Type 0 where
+  pub by-formula : map (λ (s : Sample). decimalLength (s .number)) samples ≡ map (λ (s : Sample). length (s .bytes)) samples
+  pub from-table : map (λ (s : Sample). tableLength (s .number)) samples ≡ map (λ (s : Sample). length (s .bytes)) samples
+  pub as-written : map (λ (s : Sample). written (s .number)) samples ≡ map (λ (s : Sample). s .bytes) samples

@@ -1,9 +1,12 @@
 -- Document 01's printed example: by computation, numbers from the claim of what is written.
 use mathlib.Core.Path.{_≡_, refl, ap, _∙_}
+use mathlib.Core.Bool.{true}
 use mathlib.Core.List.{List, [], _∷_, _++_}
 use mathlib.Core.Option.{some}
-use Prim.Native.Nat.{ℕ, _+_, _<_}
+use Prim.Native.Nat.{ℕ, _+_}
 use native.Mathlib.Omega.{arith}
+use lib.Dec.{ltb}
+use borrow.Author.Tests.{ltb-true}
 use Rattle.lists.specs.Words.{at}
 use Rattle.texts.specs.Text.{listingOf, headAt, linesAt, lineAt, fieldAt}
 use Rattle.numbers.specs.Decimal.{numberAt, written}
@@ -23,19 +26,19 @@ unfolding listingOf headAt linesAt lineAt fieldAt numberAt
 padded-says = refl
 
 -- A number below ten is printed as its digit.
-digit : (x : ℕ) → x < 10 → written x ≡ (48 + x) ∷ []
-digit = writing-claim .one
+digit : (x : ℕ) → ltb x 10 ≡ true → written x ≡ (48 + x) ∷ []
+digit x t = writing-claim .one x (ltb-true x 10 t)
 
 eleven : written 11 ≡ 49 ∷ 49 ∷ []
-eleven = writing-claim .more 11 (omega arith) ∙ ap (λ (l : List ℕ). l ++ (49 ∷ [])) (digit 1 (omega arith))
+eleven = writing-claim .more 11 (omega arith) ∙ ap (λ (l : List ℕ). l ++ (49 ∷ [])) (digit 1 refl)
 
 one-text : unpad paddedText ≡ exampleText
 unfolding unpad
-one-text = rw (digit 1 (omega arith), digit 2 (omega arith), digit 3 (omega arith), digit 4 (omega arith))
+one-text = rw (digit 1 refl, digit 2 refl, digit 3 refl, digit 4 refl)
 
 prints : walkPrinted (graphFrom example) (example .start) ≡ examplePrinted
 unfolding walkPrinted depthFirst search walkEdges at
-prints = rw (digit 0 (omega arith), digit 1 (omega arith), digit 2 (omega arith), digit 3 (omega arith), digit 4 (omega arith), digit 5 (omega arith), digit 6 (omega arith), digit 7 (omega arith), eleven)
+prints = rw (digit 0 refl, digit 1 refl, digit 2 refl, digit 3 refl, digit 4 refl, digit 5 refl, digit 6 refl, digit 7 refl, eleven)
 
 -- The printed example.
 pub printed-example : ExampleClaim

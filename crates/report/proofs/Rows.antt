@@ -60,19 +60,26 @@ take-three ws j h =
     ∙ append-snoc (take j ws ++ (a ∷ [])) b (c ∷ [])
     ∙ append-snoc (take j ws) a (b ∷ c ∷ [])
 
--- The line of the next event.
-rows-next : (ws : List ℕ) (i : ℕ) → 3 * i + 3 ≤ length ws → rows (take (3 * (i + 1)) ws) ≡ rows (take (3 * i) ws) ++ row (getD ws (3 * i) 0 ∷ getD ws (3 * i + 1) 0 ∷ getD ws (3 * i + 2) 0 ∷ [])
+-- The words of event i, and its line.
+abbrev wordsAt : List ℕ → ℕ → List ℕ
+wordsAt ws i = getD ws (3 * i) 0 ∷ getD ws (3 * i + 1) 0 ∷ getD ws (3 * i + 2) 0 ∷ []
+
+rows-next : (ws : List ℕ) (i : ℕ) → 3 * i + 3 ≤ length ws → rows (take (3 * (i + 1)) ws) ≡ rows (take (3 * i) ws) ++ row (wordsAt ws i)
 rows-next ws i h =
     let n : 3 * (i + 1) ≡ 3 * i + 3 = omega arith in
     ap (λ (j : ℕ). rows (take j ws)) n
     ∙ ap rows (take-three ws (3 * i) h)
-    ∙ rows-append i (take (3 * i) ws) (getD ws (3 * i) 0 ∷ getD ws (3 * i + 1) 0 ∷ getD ws (3 * i + 2) 0 ∷ []) (length-take-le (3 * i) ws (omega arith))
-    ∙ ap (λ (l : List ℕ). rows (take (3 * i) ws) ++ l) (append-nil (row (getD ws (3 * i) 0 ∷ getD ws (3 * i + 1) 0 ∷ getD ws (3 * i + 2) 0 ∷ [])))
+    ∙ rows-append i (take (3 * i) ws) (wordsAt ws i) (length-take-le (3 * i) ws (omega arith))
+    ∙ ap (λ (l : List ℕ). rows (take (3 * i) ws) ++ l) (append-nil (row (wordsAt ws i)))
 
 -- ---- bytes behind bytes
 -- These bytes were written from place `at` on, and `next` is the place past them.
 abbrev pub Wrote : (at : ℕ) (start bytes : List ℕ) (next : ℕ) (area : List ℕ) → Type 0
 Wrote at start bytes next area = (next ≡ at + length bytes) × (area ≡ pasted at bytes start)
+
+-- So, and they are at most so many.
+abbrev pub Near : (most at : ℕ) (start bytes : List ℕ) (next : ℕ) (area : List ℕ) → Type 0
+Near most at start bytes next area = (next ≤ at + most) × Wrote at start bytes next area
 
 module _ (at : ℕ) (start bytes : List ℕ) (next : ℕ) (area : List ℕ) (W : Wrote at start bytes next area) where
   -- The area is as long as before.
@@ -111,46 +118,64 @@ module _ (at : ℕ) (bytes start area : List ℕ) (i : ℕ) (W : Wrote at start 
   copied-all e = (ap (λ (k : ℕ). at + k) e, W .1 ∙ ap (λ (l : List ℕ). pasted at l start) (take-all i bytes (omega arith)))
 
 -- ---- a number and the byte behind it
-module _ (x at next : ℕ) (fits : x ≤ 65535) (start area : List ℕ) (h : at + 6 ≤ length start) (e : next ≡ pastAt (written x) at start) (q : area ≡ putAt (written x) at start) where
-  -- The number.
-  number-wrote : Wrote at start (written x) next area
-  number-wrote = let r = printed-room (written x) at start (omega (arith, number-claim .size x fits .1)) in (e ∙ r .0, q ∙ r .1)
+abbrev field : ℕ → ℕ → List ℕ
+field x stop = written x ++ (stop ∷ [])
 
-  -- With the byte behind it there are at most 6.
-  pub number-near : next + 1 ≤ at + 6
-  number-near = omega (arith, number-wrote .0, number-claim .size x fits .1)
+-- What the writer of numbers gives back.
+abbrev Put : (x at : ℕ) (start : List ℕ) (next : ℕ) (area : List ℕ) → Type 0
+Put x at start next area = (next ≡ pastAt (written x) at start) × (area ≡ putAt (written x) at start)
 
-  -- The number and the byte.
-  pub field-wrote : (stop : ℕ) → Wrote at start (written x ++ (stop ∷ [])) (next + 1) (set area next stop)
-  field-wrote stop = wrote-byte at start (written x) next area number-wrote stop (omega (arith, number-near))
+module _ (x at next : ℕ) (start area : List ℕ) (fits : x ≤ 65535) (h : at + 6 ≤ length start) (put : Put x at start next area) where
+  pub number-wrote : Near 5 at start (written x) next area
+  number-wrote =
+      let few = number-claim .size x fits .1 in
+      let r = printed-room (written x) at start (omega arith) in
+      (omega (arith, put .0 ∙ r .0), (put .0 ∙ r .0, put .1 ∙ r .1))
+
+  pub field-wrote : (stop : ℕ) → Near 6 at start (field x stop) (next + 1) (set area next stop)
+  field-wrote stop = let n = number-wrote .0 in (omega arith, wrote-byte at start (written x) next area (number-wrote .1) stop (omega arith))
 
 -- ---- lines
 -- Three numbers make a line.
-pub row-wrote : (a b c at p q r : ℕ) (start s t u : List ℕ) → at + 18 ≤ length start → p ≤ at + 6 → q ≤ p + 6 → Wrote at start (written a ++ (comma ∷ [])) p s → Wrote p s (written b ++ (comma ∷ [])) q t → Wrote q t (written c ++ (lineFeed ∷ [])) r u → Wrote at start (row (a ∷ b ∷ c ∷ [])) r u
-row-wrote a b c at p q r start s t u h i j A B C =
-    let n = A .0 in
-    let o = B .0 in
-    let m = wrote-same at start (written a ++ (comma ∷ [])) p s A (omega arith) in
-    let W = wrote-more at start (written a ++ (comma ∷ [])) p s A (omega arith) _ r u (wrote-more p s (written b ++ (comma ∷ [])) q t B (omega arith) _ r u C) in
-    let e : (written a ++ (comma ∷ [])) ++ ((written b ++ (comma ∷ [])) ++ (written c ++ (lineFeed ∷ []))) ≡ row (a ∷ b ∷ c ∷ []) =
-    append-snoc (written a) comma ((written b ++ (comma ∷ [])) ++ (written c ++ (lineFeed ∷ [])))
-    ∙ ap (λ (l : List ℕ). written a ++ comma ∷ l) (append-snoc (written b) comma (written c ++ (lineFeed ∷ []))) in
-    (W .0 ∙ ap (λ (l : List ℕ). at + length l) e, W .1 ∙ ap (λ (l : List ℕ). pasted at l start) e)
+fields-row : (a b c : ℕ) → field a comma ++ (field b comma ++ field c lineFeed) ≡ row (a ∷ b ∷ c ∷ [])
+fields-row a b c = append-snoc (written a) comma (field b comma ++ field c lineFeed) ∙ ap (λ (l : List ℕ). written a ++ comma ∷ l) (append-snoc (written b) comma (field c lineFeed))
 
--- No line yet.
-pub lines-none : (ws : List ℕ) (at : ℕ) (start : List ℕ) → Wrote at start (rows (take (3 * 0) ws)) at start
-lines-none ws at start = (sym (add-zero at), sym (pasted-none at start))
+-- The bytes written are equal to these.
+wrote-equal : (at : ℕ) (start bytes other : List ℕ) (next : ℕ) (area : List ℕ) → bytes ≡ other → Wrote at start bytes next area → Wrote at start other next area
+wrote-equal at start bytes other next area e W = subst (λ (l : List ℕ). Wrote at start l next area) e W
+
+pub row-wrote : (a b c at p q r : ℕ) (start s t u : List ℕ) → at + 18 ≤ length start
+    → Near 6 at start (field a comma) p s → Near 6 p s (field b comma) q t → Near 6 q t (field c lineFeed) r u → Near 18 at start (row (a ∷ b ∷ c ∷ [])) r u
+row-wrote a b c at p q r start s t u h A B C =
+    let i = A .0 in
+    let j = B .0 in
+    let k = C .0 in
+    let n = A .1 .0 in
+    let o = B .1 .0 in
+    let m = wrote-same at start (field a comma) p s (A .1) (omega arith) in
+    let rest = wrote-more p s (field b comma) q t (B .1) (omega arith) (field c lineFeed) r u (C .1) in
+    let whole = wrote-more at start (field a comma) p s (A .1) (omega arith) (field b comma ++ field c lineFeed) r u rest in
+    (omega arith, wrote-equal at start _ (row (a ∷ b ∷ c ∷ [])) r u (fields-row a b c) whole)
+
+-- The lines of the first i events were written.
+abbrev pub Lines : (ws : List ℕ) (at : ℕ) (start : List ℕ) (i next : ℕ) (area : List ℕ) → Type 0
+Lines ws at start i next area = Near (18 * i) at start (rows (take (3 * i) ws)) next area
+
+pub lines-none : (ws : List ℕ) (at : ℕ) (start : List ℕ) → Lines ws at start 0 at start
+lines-none ws at start = (omega arith, (sym (add-zero at), sym (pasted-none at start)))
 
 -- A line more.
-pub lines-next : (ws : List ℕ) (i at p q : ℕ) (start s t : List ℕ) → 3 * i + 3 ≤ length ws → p ≤ length start → Wrote at start (rows (take (3 * i) ws)) p s → Wrote p s (row (getD ws (3 * i) 0 ∷ getD ws (3 * i + 1) 0 ∷ getD ws (3 * i + 2) 0 ∷ [])) q t → Wrote at start (rows (take (3 * (i + 1)) ws)) q t
-lines-next ws i at p q start s t h k W N =
-    let e = sym (rows-next ws i h) in
-    let A = wrote-more at start (rows (take (3 * i) ws)) p s W (omega (arith, W .0)) _ q t N in
-    (A .0 ∙ ap (λ (l : List ℕ). at + length l) e, A .1 ∙ ap (λ (l : List ℕ). pasted at l start) e)
+pub lines-next : (ws : List ℕ) (at : ℕ) (start : List ℕ) (i p q : ℕ) (s t : List ℕ) → 3 * i + 3 ≤ length ws → p ≤ length start
+    → Lines ws at start i p s → Near 18 p s (row (wordsAt ws i)) q t → Lines ws at start (i + 1) q t
+lines-next ws at start i p q s t h k W N =
+    let m = W .0 in
+    let n = N .0 in
+    let A = wrote-more at start (rows (take (3 * i) ws)) p s (W .1) (omega (arith, W .1 .0)) (row (wordsAt ws i)) q t (N .1) in
+    (omega arith, wrote-equal at start _ (rows (take (3 * (i + 1)) ws)) q t (sym (rows-next ws i h)) A)
 
 -- All of them.
-pub lines-all : (ws : List ℕ) (i k at p : ℕ) (start s : List ℕ) → i ≡ k → Wrote at start (rows (take (3 * i) ws)) p s → Wrote at start (rows (take (3 * k) ws)) p s
-lines-all ws i k at p start s e W = subst (λ (j : ℕ). Wrote at start (rows (take (3 * j) ws)) p s) e W
+pub lines-all : (ws : List ℕ) (at : ℕ) (start : List ℕ) (i k p : ℕ) (s : List ℕ) → i ≡ k → Lines ws at start i p s → Lines ws at start k p s
+lines-all ws at start i k p s e W = subst (λ (j : ℕ). Lines ws at start j p s) e W
 
 -- Four parts in front of an area.
 parts-wrote : (a b c d start s t u v : List ℕ) (n m p q : ℕ) → length (a ++ (b ++ (c ++ d))) ≤ length start → Wrote 0 start a n s → Wrote n s b m t → Wrote m t c p u → Wrote p u d q v → (q ≡ length (a ++ (b ++ (c ++ d)))) × (v ≡ overlay (a ++ (b ++ (c ++ d))) start)
@@ -166,14 +191,18 @@ parts-wrote a b c d start s t u v n m p q h A B C D =
     (omega (arith, W .0), W .1 ∙ pasted-front (a ++ (b ++ (c ++ d))) start)
 
 -- What is printed of a walk.
-pub walk-wrote : (ws : List ℕ) (t : Totals) (start r s u v : List ℕ) (n m p q : ℕ) → 18 * t .events + 66 ≤ length start → m ≤ n + 18 * t .events → q ≤ p + 18 → Wrote 0 start eventNames n r → Wrote n r (rows (take (3 * t .events) ws)) m s → Wrote m s totalNames p u → Wrote p u (row (t .elements ∷ t .moves ∷ t .circular ∷ [])) q v → (q ≡ length (printedFrom ws t)) × (v ≡ overlay (printedFrom ws t) start)
-walk-wrote ws t start r s u v n m p q h near last-near A B C D =
+abbrev lastRow : Totals → List ℕ
+lastRow t = row (t .elements ∷ t .moves ∷ t .circular ∷ [])
+
+pub walk-wrote : (ws : List ℕ) (t : Totals) (start r s u v : List ℕ) (n m p q : ℕ) → 18 * t .events + 66 ≤ length start
+    → Wrote 0 start eventNames n r → Lines ws n r (t .events) m s → Wrote m s totalNames p u → Near 18 p u (lastRow t) q v
+    → (q ≡ length (printedFrom ws t)) × (v ≡ overlay (printedFrom ws t) start)
+walk-wrote ws t start r s u v n m p q h A B C D =
     let lines = rows (take (3 * t .events) ws) in
-    let last = row (t .elements ∷ t .moves ∷ t .circular ∷ []) in
-    let i = length-append eventNames (lines ++ (totalNames ++ last)) in
-    let j = length-append lines (totalNames ++ last) in
-    let k = length-append totalNames last in
-    parts-wrote eventNames lines totalNames last start r s u v n m p q (omega (arith, A .0, B .0, C .0, D .0)) A B C D
+    let i = length-append eventNames (lines ++ (totalNames ++ lastRow t)) in
+    let j = length-append lines (totalNames ++ lastRow t) in
+    let k = length-append totalNames (lastRow t) in
+    parts-wrote eventNames lines totalNames (lastRow t) start r s u v n m p q (omega (arith, A .0, B .0, B .1 .0, C .0, D .0, D .1 .0)) A (B .1) C (D .1)
 
 -- ---- a refusal
 -- A line is made: it is the first q bytes of an area of 14.
@@ -184,16 +213,17 @@ pub record Made (bytes : List ℕ) (q : ℕ) (area : List ℕ) : Type 0 where
   pub room : length area ≡ 14
 
 -- It is made of the name, a number and a byte.
-pub line-made : (k stop p q : ℕ) (s t : List ℕ) → q ≤ p + 6 → Wrote 0 (replicate 14 0) refusedName p s → Wrote p s (written k ++ (stop ∷ [])) q t → Made (refusedName ++ (written k ++ (stop ∷ []))) q t
-line-made k stop p q s t i A B =
+pub line-made : (k stop p q : ℕ) (s t : List ℕ) → Wrote 0 (replicate 14 0) refusedName p s → Near 6 p s (field k stop) q t → Made (refusedName ++ field k stop) q t
+line-made k stop p q s t A B =
     let start : List ℕ = replicate 14 0 in
-    let bytes : List ℕ = refusedName ++ (written k ++ (stop ∷ [])) in
+    let bytes : List ℕ = refusedName ++ field k stop in
     let h : length start ≡ 14 = length-replicate {A = ℕ} 14 0 in
+    let i = B .0 in
     let n = A .0 in
-    let m = B .0 in
+    let m = B .1 .0 in
     let f = wrote-same 0 start refusedName p s A (omega arith) in
-    let g = wrote-same p s (written k ++ (stop ∷ [])) q t B (omega arith) in
-    let W : Wrote 0 start bytes q t = wrote-more 0 start refusedName p s A (omega arith) (written k ++ (stop ∷ [])) q t B in
+    let g = wrote-same p s (field k stop) q t (B .1) (omega arith) in
+    let W : Wrote 0 start bytes q t = wrote-more 0 start refusedName p s A (omega arith) (field k stop) q t (B .1) in
     let e : q ≡ length bytes = omega (arith, W .0) in
     record { long = e; line = (λ j. take (e j) (W .1 j)) ∙ take-append-seam bytes (drop (0 + length bytes) start); most = omega arith; room = g ∙ f ∙ h }
 
@@ -202,7 +232,7 @@ pub made-size : {bytes : List ℕ} {q : ℕ} {area : List ℕ} → Made bytes q 
 made-size M = M .long ∙ sym (ap length (M .line))
 
 -- The line of refusal k.
-module _ (k q : ℕ) (area : List ℕ) (M : Made (refusedName ++ (written k ++ (lineFeed ∷ []))) q area) (output : List ℕ) where
+module _ (k q : ℕ) (area : List ℕ) (M : Made (refusedName ++ field k lineFeed) q area) (output : List ℕ) where
   -- There is no room for it.
   pub refusal-none : length output < q → (0 ≡ pastAt (refusalPrinted k) 0 output) × (output ≡ putAt (refusalPrinted k) 0 output)
   unfolding refusalPrinted

@@ -26,7 +26,7 @@ returns c =
     let z = c .before .before .before .before .before .before .before .before .before .args in
     let p = c .before .before .before .before .before .write-bytes in
     let q = c .before .before .write-field in
-    let M = line-made (z .k) lineFeed (p .result) (q .result) (p .last .1 .0) (q .last .1 .1 .0) (q .ensures .0) (p .ensures) (q .ensures .1) in
+    let M = line-made (z .k) lineFeed (p .result) (q .result) (p .last .1 .0) (q .last .1 .1 .0) (p .ensures) (q .ensures) in
     refusal-none (z .k) (q .result) (q .last .1 .1 .0) M (z .output .now) (omega arith)
 
 array-share-prefix-line : tie.Need-array-share-prefix-line
@@ -34,7 +34,7 @@ array-share-prefix-line c =
     let z = c .before .before .before .before .before .before .before .before .before .args in
     let p = c .before .before .before .before .before .write-bytes in
     let q = c .before .before .write-field in
-    let M = line-made (z .k) _ (p .result) (q .result) (p .last .1 .0) (q .last .1 .1 .0) (q .ensures .0) (p .ensures) (q .ensures .1) in
+    let M = line-made (z .k) _ (p .result) (q .result) (p .last .1 .0) (q .last .1 .1 .0) (p .ensures) (q .ensures) in
     omega (arith, M .most, M .room)
 
 slice-aggregate-write-bytes-3 : tie.Need-slice-aggregate-write-bytes-3
@@ -42,7 +42,7 @@ slice-aggregate-write-bytes-3 c =
     let z = c .before .before .before .before .before .before .before .before .before .before .args in
     let p = c .before .before .before .before .before .before .write-bytes in
     let q = c .before .before .before .write-field in
-    let M = line-made (z .k) _ (p .result) (q .result) (p .last .1 .0) (q .last .1 .1 .0) (q .ensures .0) (p .ensures) (q .ensures .1) in
+    let M = line-made (z .k) _ (p .result) (q .result) (p .last .1 .0) (q .last .1 .1 .0) (p .ensures) (q .ensures) in
     made-size M
 
 write-bytes-requires-2 : tie.Need-write-bytes-requires-2
@@ -50,7 +50,7 @@ write-bytes-requires-2 c κs =
     let z = c .before .before .before .before .before .before .before .before .before .before .before .args in
     let p = c .before .before .before .before .before .before .before .write-bytes in
     let q = c .before .before .before .before .write-field in
-    let M = line-made (z .k) _ (p .result) (q .result) (p .last .1 .0) (q .last .1 .1 .0) (q .ensures .0) (p .ensures) (q .ensures .1) in
+    let M = line-made (z .k) _ (p .result) (q .result) (p .last .1 .0) (q .last .1 .1 .0) (p .ensures) (q .ensures) in
     omega (arith, made-size M)
 
 same-length : tie.Need-same-length
@@ -61,7 +61,7 @@ returns-2 c =
     let z = c .before .before .before .before .before .before .before .before .before .before .before .before .before .before .args in
     let p = c .before .before .before .before .before .before .before .before .before .before .write-bytes in
     let q = c .before .before .before .before .before .before .before .write-field in
-    let M = line-made (z .k) lineFeed (p .result) (q .result) (p .last .1 .0) (q .last .1 .1 .0) (q .ensures .0) (p .ensures) (q .ensures .1) in
+    let M = line-made (z .k) lineFeed (p .result) (q .result) (p .last .1 .0) (q .last .1 .1 .0) (p .ensures) (q .ensures) in
     let w = c .before .before .write-bytes2 in
     refusal-copied (z .k) (q .result) (q .last .1 .1 .0) M (z .output .now) (omega arith) (w .result) (w .last .1 .0) (w .ensures)
 

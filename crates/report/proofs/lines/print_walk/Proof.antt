@@ -27,12 +27,18 @@ same-length c = search needs
 
 returns : tie.Need-returns
 returns c =
-    let z = c .before .before .before .before .before .before .before .before .before .before .before .before .before .before .before .before .before .before .before .before .args in
+    let b = c .before .before .before .before .before .before .before .before .before .before .before .before .before .before .before .before .before .before .before .before in
+    let z = b .args in
     let p = c .before .before .before .before .before .before .before .before .before .before .before .before .before .before .before .write-bytes in
     let q = c .before .before .before .before .before .before .before .before .before .before .before .write-rows in
     let r = c .before .before .before .before .before .before .write-bytes2 in
     let w = c .before .before .write-row in
-    walk-wrote (z .events .now) (z .t) (z .output .now) (p .last .1 .0) (q .last .1 .1 .0) (r .last .1 .0) (w .last .1 .1 .1 .0) (p .result) (q .result) (r .result) (w .result) (c .before .before .before .before .before .before .before .before .before .before .before .before .before .before .before .before .before .before .before .before .pre .1) (q .ensures .0) (w .ensures .0) (p .ensures) (q .ensures .1) (r .ensures) (w .ensures .1)
+    walk-wrote (z .events .now) (z .t) (z .output .now) (p .last .1 .0) (q .last .1 .1 .0) (r .last .1 .0) (w .last .1 .1 .1 .0) (p .result) (q .result) (r .result) (w .result)
+    (b .pre .1)
+    (p .ensures)
+    (q .ensures)
+    (r .ensures)
+    (w .ensures)
 
 pub print-walk-spec : {M : Type 1} → statement M
 print-walk-spec =

@@ -1,7 +1,7 @@
 -- `write_field` writes a number, and a byte behind it.
 use native.Mathlib.Omega.{arith}
 use borrow.Author.Needs.{needs}
-use Rattle.report.proofs.Rows.{number-near, field-wrote}
+use Rattle.report.proofs.Rows.{number-wrote, field-wrote}
 use Rattle.report.proofs.lines.write_field.Statement.{statement}
 use Rattle.report.proofs.lines.write_field.Tie as tie
 
@@ -10,27 +10,27 @@ write-number-requires c κs = search needs
 
 slice-write-output : tie.Need-slice-write-output
 slice-write-output c =
-    let z = c .before .before .before .before .before .args in
+    let b = c .before .before .before .before .before in
+    let z = b .args in
     let w = c .before .before .write-number in
-    omega (arith, number-near (z .x) (z .at) (w .result) (omega (arith, c .before .before .before .before .before .fits .x)) (z .output .now) (w .last .1 .0) (c .before .before .before .before .before .pre) (w .ensures .0) (w .ensures .1))
+    omega (arith, b .pre, number-wrote (z .x) (z .at) (w .result) (z .output .now) (w .last .1 .0) (omega (arith, b .fits .x)) (b .pre) (w .ensures) .0)
 
 add-result : tie.Need-add-result
 add-result c =
-    let z = c .before .before .before .before .before .args in
+    let b = c .before .before .before .before .before in
+    let z = b .args in
     let w = c .before .before .write-number in
-    omega (arith, number-near (z .x) (z .at) (w .result) (omega (arith, c .before .before .before .before .before .fits .x)) (z .output .now) (w .last .1 .0) (c .before .before .before .before .before .pre) (w .ensures .0) (w .ensures .1))
+    omega (arith, b .pre, number-wrote (z .x) (z .at) (w .result) (z .output .now) (w .last .1 .0) (omega (arith, b .fits .x)) (b .pre) (w .ensures) .0)
 
 same-length : tie.Need-same-length
 same-length c = search needs
 
 returns : tie.Need-returns
 returns c =
-    let z = c .before .before .before .before .before .args in
+    let b = c .before .before .before .before .before in
+    let z = b .args in
     let w = c .before .before .write-number in
-    let fits = c .before .before .before .before .before .fits .x in
-    let f = field-wrote (z .x) (z .at) (w .result) (omega (arith, fits)) (z .output .now) (w .last .1 .0) (c .before .before .before .before .before .pre) (w .ensures .0) (w .ensures .1) (z .stop) in
-    let n = number-near (z .x) (z .at) (w .result) (omega (arith, fits)) (z .output .now) (w .last .1 .0) (c .before .before .before .before .before .pre) (w .ensures .0) (w .ensures .1) in
-    (n, f)
+    field-wrote (z .x) (z .at) (w .result) (z .output .now) (w .last .1 .0) (omega (arith, b .fits .x)) (b .pre) (w .ensures) (z .stop)
 
 pub write-field-spec : {M : Type 1} → statement M
 write-field-spec = tie.close (tie.spec write-number-requires slice-write-output add-result same-length returns)
