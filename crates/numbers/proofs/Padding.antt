@@ -14,7 +14,8 @@ use Rattle.lists.proofs.Tests.{clash, neither, Compared, equal, other, compare}
 use Rattle.numbers.specs.Decimal.{written, isDigit, digitsAhead, valueAfter, inForm, Field, numberAt}
 use Rattle.numbers.specs.Padding.{padded, zeroFirst, paddingFrom, hasPadding, plain, unpadFrom, unpad}
 use Rattle.numbers.specs.Claims.{PaddingClaim, UnpadClaim, Found, ReadingClaim}
-use Rattle.numbers.proofs.Numbers.{digit-tested, AllDigits, all-append, unpadded, ahead-all, ahead-drop, ahead-ends, ahead-append, written-all, written-value, written-some, written-most, padded-all, padded-value, padded-form, written-unpadded, written-again, written-form, number-read, number-here}
+use Rattle.numbers.proofs.Numbers.{digit-tested, AllDigits, all-append, unpadded, ahead-all, ahead-drop, ahead-ends, ahead-append, number-read, number-here}
+use Rattle.numbers.proofs.Numbers.{written-all, written-value, written-some, written-most, padded-all, padded-value, padded-form, written-unpadded, written-again, written-form}
 
 -- What follows the digits that a text begins with.
 abbrev behind : List ℕ → List ℕ
@@ -177,7 +178,8 @@ nothing : unpad [] ≡ []
 unfolding unpad
 nothing = refl
 
-anywhere : (front : List ℕ) (b x z : ℕ) (rest : List ℕ) → isDigit b ≡ false → x ≤ 65535 → length (padded z x) ≤ 5 → digitsAhead rest ≡ [] → unpad (front ++ (b ∷ (padded z x ++ rest))) ≡ unpad (front ++ (b ∷ (written x ++ rest)))
+anywhere : (front : List ℕ) (b x z : ℕ) (rest : List ℕ) → isDigit b ≡ false → x ≤ 65535 → length (padded z x) ≤ 5 → digitsAhead rest ≡ []
+    → unpad (front ++ (b ∷ (padded z x ++ rest))) ≡ unpad (front ++ (b ∷ (written x ++ rest)))
 anywhere front b x z rest t h few e =
     byte front b (padded z x ++ rest) t
     ∙ ap (λ (l : List ℕ). unpad front ++ (b ∷ l)) (number x z rest h few e ∙ sym (number x 0 rest h (written-most x h) e))

@@ -12,6 +12,7 @@ use Rattle.lists.proofs.Words.{pasted-front, pasted-none, pasted-next, pasted-p
 use Rattle.graphs.specs.Events.{Event, event, code, words}
 use Rattle.numbers.specs.Decimal.{written, putAt, pastAt}
 use Rattle.numbers.proofs.Numbers.{number-claim}
+use Rattle.numbers.proofs.NumberLoops.{Put}
 use Rattle.texts.specs.Text.{comma, lineFeed, row}
 use Rattle.report.specs.declared.walk.Totals.{Totals}
 use Rattle.report.specs.Printed.{eventNames, totalNames, refusedName, eventRows, refusalPrinted}
@@ -120,10 +121,6 @@ module _ (at : ℕ) (bytes start area : List ℕ) (i : ℕ) (W : Wrote at start 
 -- ---- a number and the byte behind it
 abbrev field : ℕ → ℕ → List ℕ
 field x stop = written x ++ (stop ∷ [])
-
--- What the writer of numbers gives back.
-abbrev Put : (x at : ℕ) (start : List ℕ) (next : ℕ) (area : List ℕ) → Type 0
-Put x at start next area = (next ≡ pastAt (written x) at start) × (area ≡ putAt (written x) at start)
 
 module _ (x at next : ℕ) (start area : List ℕ) (fits : x ≤ 65535) (h : at + 6 ≤ length start) (put : Put x at start next area) where
   pub number-wrote : Near 5 at start (written x) next area

@@ -59,7 +59,9 @@ pub record Fits (p : Listing) (after tail : List ℕ) : Type 0 where
 pub loaded-fits : (text after tail : List ℕ) (p : Listing) → reading text after tail ≡ loaded p → Fits p after tail
 unfolding listingNumber
 loaded-fits text after tail p e =
-    let c = all-false (sizeRefusals (p .n) (p .m) (lent (p .n + p .m) after ∷ lent (p .m) tail ∷ []) ++ refuse 4 (vertexOut (p .n) (p .start)) ∷ refuse 6 (linesOut (p .n) (p .lines)) ∷ []) [] (omega arith) (taken text after tail p e .1) .0 in
+    let sizes = sizeRefusals (p .n) (p .m) (lent (p .n + p .m) after ∷ lent (p .m) tail ∷ []) in
+    let vertices = refuse 4 (vertexOut (p .n) (p .start)) ∷ refuse 6 (linesOut (p .n) (p .lines)) ∷ [] in
+    let c = all-false (sizes ++ vertices) [] (omega arith) (taken text after tail p e .1) .0 in
     let v = neither (eqb (p .n) 0) (ltb 1000 (p .n)) (c .0) in
     let some-n = eqb-false (p .n) 0 (v .0) in
     let a = long (p .n + p .m) after (lent (p .m) tail ∷ []) (c .1 .1 .0) in

@@ -147,7 +147,8 @@ names-read text at names d =
     (λ e. ap unpad (begins-is names (drop at text) e) ∙ names-kept names (drop (length names) (drop at text)) d ∙ ap (λ (l : List ℕ). names ++ unpad l) (drop-drop (length names) at text))
 
 -- ---- what lies ahead is read
-field-ahead : (text : List ℕ) (at x stop : ℕ) (rest : List ℕ) → x ≤ 65535 → isDigit stop ≡ false → Ahead text at (written x ++ stop ∷ rest) → Reads (fieldAt text at stop) (λ next. record { value = x; next = next }) text rest
+field-ahead : (text : List ℕ) (at x stop : ℕ) (rest : List ℕ) → x ≤ 65535 → isDigit stop ≡ false → Ahead text at (written x ++ stop ∷ rest)
+    → Reads (fieldAt text at stop) (λ next. record { value = x; next = next }) text rest
 unfolding fieldAt
 field-ahead text at x stop rest fits other h =
     let none-ahead : digitsAhead (stop ∷ rest) ≡ [] = rw other in
@@ -156,13 +157,15 @@ field-ahead text at x stop rest fits other h =
     let same : f .next + 0 ≡ f .next = omega arith in
     let byte : getD text (f .next) 0 ≡ stop = ap (λ (i : ℕ). getD text i 0) (sym same) ∙ sym (getD-drop (f .next) text 0 0) ∙ ap (λ (l : List ℕ). getD l 0 0) (b .0) in
     let one : f .next + 1 ≡ suc (f .next) = omega arith in
+    let past : drop (suc (f .next)) text ≡ drop 1 (drop (f .next) text) = ap (λ (k : ℕ). drop k text) (sym one) ∙ sym (drop-drop 1 (f .next) text) in
     record {
       next = suc (f .next);
       found = found-then (stopped text stop) (f .found) (rw (eq-eqb _ stop byte));
-      ahead = record { within = omega (arith, f .within, length-drop (f .next) text, ap length (b .0)); rest = ap unpad (ap (λ (k : ℕ). drop k text) (sym one) ∙ sym (drop-drop 1 (f .next) text)) ∙ b .1 };
+      ahead = record { within = omega (arith, f .within, length-drop (f .next) text, ap length (b .0)); rest = ap unpad past ∙ b .1 };
     }
 
-line-ahead : (text : List ℕ) (at : ℕ) (l : Line) (rest : List ℕ) → l .from ≤ 65535 → l .to ≤ 65535 → Ahead text at (row (l .from ∷ l .to ∷ []) ++ rest) → Reads (lineAt text at) (λ next. record { line = l; next = next }) text rest
+line-ahead : (text : List ℕ) (at : ℕ) (l : Line) (rest : List ℕ) → l .from ≤ 65535 → l .to ≤ 65535 → Ahead text at (row (l .from ∷ l .to ∷ []) ++ rest)
+    → Reads (lineAt text at) (λ next. record { line = l; next = next }) text rest
 unfolding lineAt
 line-ahead text at l rest f t h =
     let a = field-ahead text at (l .from) comma (written (l .to) ++ lineFeed ∷ rest) f refl (rw (row-two (l .from) (l .to) rest) at h) in
@@ -176,7 +179,8 @@ lines-ahead text at (l ∷ ls) f h =
     let a = line-ahead text at l (linesText ls) (f .0) (f .1) h in
     found-then _ (a .found) (found-then _ (lines-ahead text (a .next) ls (f .2) (a .ahead)) refl)
 
-head-ahead : (text : List ℕ) (p : Listing) (rest : List ℕ) → Writable p → Ahead text 0 (elementNames ++ (row (p .n ∷ p .m ∷ p .start ∷ []) ++ (lineNames ++ rest))) → Reads (headAt text) (λ next. record { n = p .n; m = p .m; start = p .start; next = next }) text rest
+head-ahead : (text : List ℕ) (p : Listing) (rest : List ℕ) → Writable p → Ahead text 0 (elementNames ++ (row (p .n ∷ p .m ∷ p .start ∷ []) ++ (lineNames ++ rest)))
+    → Reads (headAt text) (λ next. record { n = p .n; m = p .m; start = p .start; next = next }) text rest
 unfolding headAt
 head-ahead text p rest w h =
     let a = names-ahead text 0 elementNames (row (p .n ∷ p .m ∷ p .start ∷ []) ++ (lineNames ++ rest)) refl h in
@@ -195,13 +199,17 @@ reads-back text p w h =
 -- ---- what is read lay ahead
 field-read : (text : List ℕ) (at stop : ℕ) → 0 < stop → isDigit stop ≡ false → Finds (FieldRead text at stop) (fieldAt text at stop)
 unfolding fieldAt
-field-read text at stop h other = finds-then _ (FieldRead text at stop) (numberAt text at) (stopped text stop) (finds-same (numberAt text at)) (λ f e. finds-if (FieldRead text at stop) _ _ (λ t. go f e (eqb-true _ stop t)))
+field-read text at stop h other =
+    finds-then _ (FieldRead text at stop) (numberAt text at) (stopped text stop) (finds-same (numberAt text at))
+    (λ f e. finds-if (FieldRead text at stop) _ _ (λ t. go f e (eqb-true _ stop t)))
   where
     go : (f : Field) → numberAt text at ≡ some f → getD text (f .next) 0 ≡ stop → FieldRead text at stop (record { value = f .value; next = suc (f .next) })
     go f e byte =
         let out : length text ≤ f .next → ⊥ = λ q. (let z : getD text (f .next) 0 ≡ 0 = List·getD-eq-default text 0 q in omega arith) in
         let within : f .next < length text = omega arith in
-        (reading-claim .was-read text at f e ∙ ap (λ (l : List ℕ). written (f .value) ++ l) (ap unpad (drop-cons text (f .next) 0 within ∙ (λ i. byte i ∷ drop (suc (f .next)) text)) ∙ byte-kept stop (drop (suc (f .next)) text) other), number-claim .found text at f .0 e .fits)
+        let rest = drop (suc (f .next)) text in
+        let past = ap unpad (drop-cons text (f .next) 0 within ∙ (λ i. byte i ∷ rest)) ∙ byte-kept stop rest other in
+        (reading-claim .was-read text at f e ∙ ap (λ (l : List ℕ). written (f .value) ++ l) past, number-claim .found text at f .0 e .fits)
 
 line-read : (text : List ℕ) (at : ℕ) → Finds (LineRead text at) (lineAt text at)
 unfolding lineAt
@@ -212,11 +220,21 @@ line-read text at =
 
 lines-read : (text : List ℕ) (at k : ℕ) → Finds (LinesRead text at) (linesAt text at k)
 unfolding linesAt
-lines-read text at zero = finds-if (LinesRead text at) (eqb at (length text)) [] (λ e. (ap unpad (drop-of-length-le text {i = at} (let z = eqb-true at (length text) e in omega arith)) ∙ unpad-claim .nothing, tt))
+lines-read text at zero =
+    finds-if (LinesRead text at) (eqb at (length text)) []
+    (λ e. (ap unpad (drop-of-length-le text {i = at} (let z = eqb-true at (length text) e in omega arith)) ∙ unpad-claim .nothing, tt))
 lines-read text at (suc k) =
     finds-then _ (LinesRead text at) (lineAt text at) _ (line-read text at)
     (λ l a. finds-then _ (LinesRead text at) (linesAt text (l .next) k) _ (lines-read text (l .next) k)
     (λ ls b. (a .0 ∙ ap (λ (t : List ℕ). row (l .line .from ∷ l .line .to ∷ []) ++ t) (b .0), (a .1, a .2, b .1))))
+
+-- A name, three fields and a name, one behind the other.
+head-joined : (t u v w x rest : List ℕ) (n m s : ℕ) → t ≡ elementNames ++ u → u ≡ written n ++ comma ∷ v → v ≡ written m ++ comma ∷ w
+    → w ≡ written s ++ lineFeed ∷ x → x ≡ lineNames ++ rest → t ≡ elementNames ++ (row (n ∷ m ∷ s ∷ []) ++ (lineNames ++ rest))
+head-joined t u v w x rest n m s a b c d e =
+    let last = d ∙ ap (λ (l : List ℕ). written s ++ lineFeed ∷ l) e in
+    let values = b ∙ ap (λ (l : List ℕ). written n ++ comma ∷ l) (c ∙ ap (λ (l : List ℕ). written m ++ comma ∷ l) last) in
+    a ∙ ap (λ (l : List ℕ). elementNames ++ l) (values ∙ sym (row-three n m s (lineNames ++ rest)))
 
 head-read : (text : List ℕ) → Finds (HeadRead text) (headAt text)
 unfolding headAt
@@ -226,7 +244,7 @@ head-read text =
     (λ n b. finds-then _ (HeadRead text) (fieldAt text (n .next) comma) _ (field-read text (n .next) comma (omega arith) refl)
     (λ m c. finds-then _ (HeadRead text) (fieldAt text (m .next) lineFeed) _ (field-read text (m .next) lineFeed (omega arith) refl)
     (λ s d. finds-then _ (HeadRead text) (namesAt text (s .next) lineNames) _ (names-read text (s .next) lineNames refl)
-    (λ q e. (a ∙ ap (λ (l : List ℕ). elementNames ++ l) (b .0 ∙ ap (λ (l : List ℕ). written (n .value) ++ comma ∷ l) (c .0 ∙ ap (λ (l : List ℕ). written (m .value) ++ comma ∷ l) (d .0 ∙ ap (λ (l : List ℕ). written (s .value) ++ lineFeed ∷ l) e)) ∙ sym (row-three (n .value) (m .value) (s .value) (lineNames ++ unpad (drop q text)))), b .1, c .1, d .1))))))
+    (λ q e. (head-joined _ _ _ _ _ (unpad (drop q text)) (n .value) (m .value) (s .value) a (b .0) (c .0) (d .0) e, b .1, c .1, d .1))))))
 
 listing-read : (text : List ℕ) → Finds (ListingRead text) (listingOf text)
 unfolding listingOf textOf
@@ -272,14 +290,21 @@ lines-near text at (suc k) =
     finds-then (LineNear at) (LinesNear text at (suc k)) (lineAt text at) _ (line-near text at)
     (λ l a. finds-then (LinesNear text (l .next) k) (LinesNear text at (suc k)) (linesAt text (l .next) k) _ (lines-near text (l .next) k) (λ ls b. omega arith))
 
+-- Names end behind their bytes.
+abbrev NamesNear : ℕ → List ℕ → ℕ → Type 0
+NamesNear at names p = p ≤ at + length names
+
+names-near : (text : List ℕ) (at : ℕ) (names : List ℕ) → Finds (NamesNear at names) (namesAt text at names)
+names-near text at names = finds-if (NamesNear at names) (begins names (drop at text)) (at + length names) (λ e. omega arith)
+
 head-near : (text : List ℕ) → Finds HeadNear (headAt text)
 unfolding headAt
 head-near text =
-    finds-then (λ (p : ℕ). p ≤ 26) HeadNear (namesAt text 0 elementNames) _ (finds-if (λ (p : ℕ). p ≤ 26) (begins elementNames text) (0 + length elementNames) (λ e. omega arith))
+    finds-then (NamesNear 0 elementNames) HeadNear (namesAt text 0 elementNames) _ (names-near text 0 elementNames)
     (λ p a. finds-then (FieldNear p) HeadNear (fieldAt text p comma) _ (field-near text p comma)
     (λ n b. finds-then (FieldNear (n .next)) HeadNear (fieldAt text (n .next) comma) _ (field-near text (n .next) comma)
     (λ m c. finds-then (FieldNear (m .next)) HeadNear (fieldAt text (m .next) lineFeed) _ (field-near text (m .next) lineFeed)
-    (λ s d. finds-then (λ (q : ℕ). q ≤ s .next + 8) HeadNear (namesAt text (s .next) lineNames) _ (finds-if (λ (q : ℕ). q ≤ s .next + 8) (begins lineNames (drop (s .next) text)) (s .next + length lineNames) (λ e. omega arith))
+    (λ s d. finds-then (NamesNear (s .next) lineNames) HeadNear (namesAt text (s .next) lineNames) _ (names-near text (s .next) lineNames)
     (λ q e. omega arith)))))
 
 listing-near : (text : List ℕ) → Finds (ListingNear text) (listingOf text)

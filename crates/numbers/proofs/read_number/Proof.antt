@@ -65,7 +65,8 @@ returns-3 : tie.Need-returns-3 Inv-loop μ-loop
 returns-3 c =
     let z = c .before .before .before .before .before .before .before .before .before .before .args in
     let l = c .before .before .before .before .loop in
-    sym (reading-stop (z .text .now) (z .at) (l .value) (l .i) (l .inv .4) (c .before .before .before .loop-test .taken) (l .inv .1) (l .inv .3) (sym (c .before .is-digit2 .ensures) ∙ not-true (c .before .is-digit2 .result) (c .if3 .taken)))
+    let other = sym (c .before .is-digit2 .ensures) ∙ not-true (c .before .is-digit2 .result) (c .if3 .taken) in
+    sym (reading-stop (z .text .now) (z .at) (l .value) (l .i) (l .inv .4) (c .before .before .before .loop-test .taken) (l .inv .1) (l .inv .3) other)
 
 sub-if4 : tie.Need-sub-if4 Inv-loop μ-loop
 sub-if4 c = omega arith
@@ -104,7 +105,8 @@ loop-again : tie.Need-loop-again Inv-loop μ-loop
 loop-again c =
     let z = c .before .before .before .before .before .before .before .before .before .before .before .before .args in
     let l = c .before .before .before .before .before .before .loop in
-    (omega arith, omega arith, omega arith, omega arith, reading-next (z .text .now) (z .at) (l .value) (l .i) (l .inv .4) (c .before .before .before .before .before .loop-test .taken) (next-digit (c .before .before) .test))
+    let more = c .before .before .before .before .before .loop-test .taken in
+    (omega arith, omega arith, omega arith, omega arith, reading-next (z .text .now) (z .at) (l .value) (l .i) (l .inv .4) more (next-digit (c .before .before) .test))
 
 cast-t20 : tie.Need-cast-t20 Inv-loop μ-loop
 cast-t20 c = omega arith
