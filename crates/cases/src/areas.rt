@@ -31,7 +31,7 @@ pub(crate) const NUMBERS: usize = 10;
 pub(crate) const WANT: usize = 11;
 
 // The areas of a search, in place of those that a walk does not need: the stack of vertices, the lines that were looked through for
-// each, the labels, what is counted. The marks that the walk leaves.
+// each, the labels, what is counted. The marks that the walk leaves. The paths of a small listing.
 pub(crate) const STACK: usize = 0;
 
 pub(crate) const LINES: usize = 1;
@@ -41,6 +41,8 @@ pub(crate) const LABELS: usize = 2;
 pub(crate) const COUNTS: usize = 8;
 
 pub(crate) const MARKS: usize = 9;
+
+pub(crate) const PATHS: usize = 10;
 
 // What an area holds before a call, in every word.
 pub(crate) const UNTOUCHED: u16 = 60001;

@@ -4,6 +4,7 @@
 mod areas;
 mod calls;
 mod chance;
+mod circles;
 mod conversions;
 mod digits;
 mod drawn;
@@ -140,7 +141,7 @@ fn print_numbers() {
 }
 
 fn print_walks() {
-    print(b"walk_text: examples and limits", 17, 112);
+    print(b"walk_text: examples and limits", 17, 119);
     print(b"walk_text: texts in form", 18, 2000);
     print(b"walk_text: damaged texts", 19, 4000);
     print(b"walk_text: padded and not", 20, 603);

@@ -10,13 +10,14 @@ use crate::areas::STACK;
 use crate::areas::get_at;
 use crate::areas::of_node;
 use crate::areas::part;
+use crate::areas::place_of;
 use crate::areas::put_at;
 use crate::areas::put_event;
 use crate::areas::store;
 use crate::areas::word;
 use crate::listing::edge;
 
-// What is counted: vertices being scanned, words of events, vertices labelled, moves; and 1 where a nontree edge was met.
+// What is counted: vertices being scanned, words of events, vertices labelled, moves; and 1 where an edge led to a vertex on the stack.
 const DEPTH: usize = 0;
 
 pub(crate) const WORDS: usize = 1;
@@ -52,6 +53,12 @@ fn push(d: &mut Desk, k: u16, x: u16) {
     emit(d, 1, 0, x);
 }
 
+// Whether x is in the first k places of the stack. Its place 0 holds no vertex.
+fn is_on_stack(d: &Desk, k: u16, x: u16) -> bool {
+    let top = k as usize + 1;
+    place_of(part(d, STACK, top), top, x) < top
+}
+
 // Takes the edge e from u, which is in place k of the stack, to x. Two moves.
 fn take(d: &mut Desk, k: u16, e: u16, u: u16, x: u16) {
     raise(d, MOVES, 2);
@@ -62,7 +69,9 @@ fn take(d: &mut Desk, k: u16, e: u16, u: u16, x: u16) {
     }
     emit(d, 3, e, u);
     emit(d, 4, e, u);
-    put_at(d, COUNTS, CIRCULAR, 1);
+    if is_on_stack(d, k, x) {
+        put_at(d, COUNTS, CIRCULAR, 1);
+    }
 }
 
 // Leaves u for the vertex in place k of the stack, if there is one, by the edge of the line last taken.
@@ -111,6 +120,7 @@ fn turn(d: &mut Desk, n: u16, m: u16) {
 // Nothing is labelled and nothing counted.
 fn clear(d: &mut Desk) {
     let zeros = [0u16; SPAN];
+    put_at(d, STACK, 0, 0);
     store(d, LABELS, &zeros);
     store(d, COUNTS, &zeros);
 }

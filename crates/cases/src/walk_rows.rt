@@ -1,5 +1,6 @@
 // Texts whose walk is written down, or whose number: document 01's example, as it stands and padded, the rows of the table of texts, a
-// chain of 1,000 vertices and the longest walk, areas that are too short and outputs without room.
+// chain of 1,000 vertices, a ring of them and the longest walk, profiles with a circle and without, areas that are too short and outputs
+// without room.
 use crate::areas::COUNTS;
 use crate::areas::Desk;
 use crate::areas::LISTED;
@@ -7,12 +8,16 @@ use crate::areas::SPAN;
 use crate::areas::Text;
 use crate::areas::differ;
 use crate::areas::first_bytes;
+use crate::areas::get_at;
 use crate::areas::next;
 use crate::areas::part;
 use crate::areas::put_at;
 use crate::listing::edge;
 use crate::printed::output_differs;
 use crate::printed::put_walk;
+use crate::search::CIRCULAR;
+use crate::search::LABELLED;
+use crate::search::MOVES;
 use crate::tally::Outcome;
 use crate::tally::also;
 use crate::tally::expected;
@@ -69,6 +74,38 @@ fn chain_case(d: &mut Desk, text: &mut Text, m: u16, counts: &[u16]) -> Outcome 
     also(expected(o, 0), differ(part(d, COUNTS, 5), counts))
 }
 
+// A text, from its first values on, with the vertices reached, the moves and the circular figure.
+fn told_case(
+    d: &mut Desk,
+    text: &mut Text,
+    values: &[u8],
+    reached: u16,
+    moves: u16,
+    circular: u16,
+) -> Outcome {
+    let at = put_names(text, 0, b"elements,references,start\n");
+    let length = put_names(text, at, values);
+    let o = walked(d, text, length, 5, 0);
+    let differs = get_at(d, COUNTS, LABELLED) != reached || get_at(d, COUNTS, MOVES) != moves;
+    also(
+        expected(o, 0),
+        differs || get_at(d, COUNTS, CIRCULAR) != circular,
+    )
+}
+
+// Profiles without a circle that is reached: two edges to a vertex, that leave two vertices or one; a circle that is not reached. Then
+// with one: a loop; two vertices; two vertices that the start is none of.
+fn circle_case(d: &mut Desk, text: &mut Text, i: usize) -> Outcome {
+    match i {
+        0 => told_case(d, text, b"3,3,1\nfrom,to\n1,2\n1,3\n2,3\n", 3, 9, 0),
+        1 => told_case(d, text, b"2,2,1\nfrom,to\n1,2\n1,2\n", 2, 6, 0),
+        2 => told_case(d, text, b"3,2,1\nfrom,to\n2,3\n3,2\n", 1, 1, 0),
+        3 => told_case(d, text, b"1,1,1\nfrom,to\n1,1\n", 1, 3, 1),
+        4 => told_case(d, text, b"2,2,1\nfrom,to\n1,2\n2,1\n", 2, 6, 1),
+        _ => told_case(d, text, b"3,3,1\nfrom,to\n1,2\n2,3\n3,2\n", 3, 9, 1),
+    }
+}
+
 // The text of row i of the table of texts, with the number that it is to be answered with.
 fn row_case(d: &mut Desk, text: &mut Text, i: usize, one: usize, less: usize, k: u16) -> Outcome {
     let length = draw_row(d, text, i);
@@ -98,6 +135,17 @@ fn short_case(d: &mut Desk, text: &mut Text, i: usize) -> Outcome {
     }
 }
 
+// A ring of 1,000 vertices, profiles with a circle and without, and the rows of the table of texts.
+fn more_case(d: &mut Desk, text: &mut Text, i: usize) -> Outcome {
+    if i == 0 {
+        return chain_case(d, text, 1000, &[0, 12000, 1000, 3000, 1]);
+    }
+    if i < 7 {
+        return circle_case(d, text, i - 1);
+    }
+    text_case(d, text, i - 7)
+}
+
 pub(crate) fn case(d: &mut Desk, text: &mut Text, i: usize) -> Outcome {
     if i == 0 {
         return printed_case(
@@ -124,5 +172,5 @@ pub(crate) fn case(d: &mut Desk, text: &mut Text, i: usize) -> Outcome {
     if i < 49 {
         return short_case(d, text, i - 4);
     }
-    text_case(d, text, i - 49)
+    more_case(d, text, i - 49)
 }

@@ -1,5 +1,5 @@
 // The walk of a text: its number, every byte of what is printed and every word of the areas, against the second reader, the second
-// search and the second writer.
+// search and the second writer. The circular figure of a small listing is told by the closure of its lines too.
 use crate::areas::AFTER;
 use crate::areas::Desk;
 use crate::areas::LABELS;
@@ -18,6 +18,7 @@ use crate::calls::answer;
 use crate::calls::reported;
 use crate::calls::walk_text;
 use crate::chance::draw;
+use crate::circles::circle_differs;
 use crate::drawn::other_seed;
 use crate::listing::COPIED;
 use crate::listing::area_differs;
@@ -89,6 +90,13 @@ fn areas_differ(d: &mut Desk, n: u16, m: u16) -> bool {
     a || area_differs(d, MARKS, n as usize + m as usize, COPIED, LABELS, n, m)
 }
 
+// The same, or whether the circular figure of the search is not that of the closure.
+fn searched_differs(d: &mut Desk, second: u64) -> bool {
+    let n = said_n(second);
+    let m = said_m(second);
+    areas_differ(d, n, m) || circle_differs(d, n, m, word(second))
+}
+
 // Compares what is reported and printed, into `room` bytes, with what is to be printed; it comes into the text.
 fn compared(d: &Desk, text: &mut Text, first: u64, k: u16, output: &[u8], room: usize) -> Outcome {
     let length = put_report(text, d, k, room);
@@ -115,7 +123,7 @@ pub(crate) fn walked(
         one,
         less,
     );
-    let differs = areas_differ(d, said_n(second), said_m(second)) || events_differ(&events, d);
+    let differs = searched_differs(d, second) || events_differ(&events, d);
     let o = compared(
         d,
         text,

@@ -14,7 +14,7 @@ use Rattle.lists.proofs.Words.{read-past, pasted-none, at-other}
 use Rattle.lists.proofs.Tests.{and-true, both}
 use Rattle.graphs.specs.Nodes.{isEdge, isLink, isNode}
 use Rattle.graphs.proofs.Nodes.{edge-is}
-use Rattle.folding.specs.Machine.{Config, relink, retreat, finish, undo-tree, undo-open, rollingBack, relinked, target, closed, upward, fits, enact}
+use Rattle.folding.specs.Machine.{Config, relink, retreat, finish, undo-tree, undo-open, rollingBack, relinked, scannedMarks, target, closed, upward, fits, enact}
 use Rattle.walks.proofs.Storing.{all-cleared}
 use Rattle.folded.specs.Steps.{Attempt, out, made, trying, upwardIn}
 use Rattle.folded.proofs.Stores.{store-past, unfit-left, fit-made}
@@ -112,9 +112,9 @@ module _ (w : Config) (k : ℕ) (area : List ℕ) where
   unfolding fits
   finish-out h = sym (unfit-left w finish k area (ne-eqb (w .v) (w .start) h))
 
-  pub finish-made : {left : List ℕ} → w .v ≡ w .start → left ≡ pasted (3 * k) (6 ∷ 0 ∷ w .v ∷ []) area → done (stored w (w .v) (w .e) (w .f) 3 (set (w .after) (w .v - 1) (w .e)) (w .tail) (w .marks)) (k + 1) left ≡ trying w finish k area
+  pub finish-made : {left marks : List ℕ} → w .v ≡ w .start → marks ≡ scannedMarks w → left ≡ pasted (3 * k) (6 ∷ 0 ∷ w .v ∷ []) area → done (stored w (w .v) (w .e) (w .f) 3 (set (w .after) (w .v - 1) (w .e)) (w .tail) marks) (k + 1) left ≡ trying w finish k area
   unfolding fits enact put
-  finish-made h p = ap (done (enact w finish .config) (k + 1)) p ∙ sym (fit-made w finish k area (eq-eqb (w .v) (w .start) h))
+  finish-made h q p = (λ i. done (stored w (w .v) (w .e) (w .f) 3 (closed w) (w .tail) (q i)) (k + 1) (p i)) ∙ sym (fit-made w finish k area (eq-eqb (w .v) (w .start) h))
 
   -- The start left: the marks of the vertices become 0.
   pub undo-open-out : w .v ≢ w .start → out w k area ≡ trying w undo-open k area
@@ -163,13 +163,13 @@ module _ (w : Config) (k : ℕ) (area : List ℕ) where
           let no = ap (λ (x : ℕ). isLink (w .n) (w .m) (at 0 (closed w) x)) (sym (U .read)) ∙ ap (isLink (w .n) (w .m)) (sym link-read) ∙ h in
           sym (unfit-left w retreat k area (fails-second (isEdge (w .n) (w .m) (upward w)) (fails-second (isNode (w .n) (w .m) (target w (upward w))) no)))
 
-      pub retreat-made : {left : List ℕ} → isLink (w .n) (w .m) (getD (w .after) (r - 1) 0) ≡ true → left ≡ pasted (3 * k) (6 ∷ 0 ∷ w .v ∷ 5 ∷ r ∷ w .f ∷ []) area
-          → done (stored w (w .f) (getD (w .after) (r - 1) 0) r 1 (set (set (w .after) (w .v - 1) (w .e)) (r - 1) (getD (w .tail) (r - w .n - 1) 0)) (set (w .tail) (r - w .n - 1) (w .v)) (w .marks)) (k + 2) left ≡ trying w retreat k area
+      pub retreat-made : {left marks : List ℕ} → isLink (w .n) (w .m) (getD (w .after) (r - 1) 0) ≡ true → marks ≡ scannedMarks w → left ≡ pasted (3 * k) (6 ∷ 0 ∷ w .v ∷ 5 ∷ r ∷ w .f ∷ []) area
+          → done (stored w (w .f) (getD (w .after) (r - 1) 0) r 1 (set (set (w .after) (w .v - 1) (w .e)) (r - 1) (getD (w .tail) (r - w .n - 1) 0)) (set (w .tail) (r - w .n - 1) (w .v)) marks) (k + 2) left ≡ trying w retreat k area
       unfolding fits enact put
-      retreat-made h p =
+      retreat-made h q p =
           let word = sym (read-past (w .n) (w .tail) r) in
           let shut = store-past (w .n) (w .tail) r (w .v) in
           let linked = ap (λ (x : ℕ). isLink (w .n) (w .m) (at 0 (closed w) x)) (sym (U .read)) ∙ ap (isLink (w .n) (w .m)) (sym link-read) ∙ h in
-          (λ i. done (stored w (w .f) (link-read i) r 1 (put 0 (closed w) r (word i)) (shut i) (w .marks)) (k + 2) (p i))
-          ∙ ap (λ (x : ℕ). done (stored w (w .f) (at 0 (closed w) x) x 1 (put 0 (closed w) x (target w x)) (put (w .n) (w .tail) x (w .v)) (w .marks)) (k + 2) (pasted (3 * k) (6 ∷ 0 ∷ w .v ∷ 5 ∷ x ∷ w .f ∷ []) area)) (U .read)
+          (λ i. done (stored w (w .f) (link-read i) r 1 (put 0 (closed w) r (word i)) (shut i) (q i)) (k + 2) (p i))
+          ∙ ap (λ (x : ℕ). done (stored w (w .f) (at 0 (closed w) x) x 1 (put 0 (closed w) x (target w x)) (put (w .n) (w .tail) x (w .v)) (scannedMarks w)) (k + 2) (pasted (3 * k) (6 ∷ 0 ∷ w .v ∷ 5 ∷ x ∷ w .f ∷ []) area)) (U .read)
           ∙ sym (fit-made w retreat k area (and-true (U .edge) (and-true (U .trailer) linked)))

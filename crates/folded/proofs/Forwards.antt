@@ -11,7 +11,7 @@ use Rattle.lists.specs.Words.{at, put, pasted}
 use Rattle.lists.proofs.Words.{read-past, read-at}
 use Rattle.graphs.specs.Nodes.{isVertex, isLink}
 use Rattle.graphs.proofs.Nodes.{vertex-yes}
-use Rattle.folding.specs.Machine.{Config, tree, nontree, fresh, target, closed, fits, enact}
+use Rattle.folding.specs.Machine.{Config, tree, nontree, fresh, labelMark, circling, target, closed, fits, enact}
 use Rattle.folded.specs.Steps.{Attempt, out, trying, onward}
 use Rattle.folded.proofs.Stores.{store-first, store-past, unfit-left, fit-made}
 
@@ -36,7 +36,7 @@ module _ (w : Config) (k : ℕ) (area : List ℕ) (x : ℕ) (is : x ≡ target w
 
   -- It fits, and the stores that the code makes are those of the step.
   pub tree-made : w .next ≤ w .n → (r : ℕ) → r ≡ at 0 (closed w) x → isLink (w .n) (w .m) r ≡ true → {events : List ℕ} → events ≡ pasted (3 * k) (2 ∷ w .e ∷ w .v ∷ 1 ∷ 0 ∷ x ∷ []) area
-      → _≡_ {A = Attempt} (record { fit = true; config = record { n = w .n; m = w .m; start = w .start; v = x; e = r; f = w .v; phase = w .phase; next = w .next + 1; circular = w .circular; after = set (w .after) (w .v - 1) (w .e); tail = set (w .tail) (w .e - w .n - 1) (w .f); marks = set (w .marks) (x - 1) (w .next) }; count = k + 2; area = events }) (trying w tree k area)
+      → _≡_ {A = Attempt} (record { fit = true; config = record { n = w .n; m = w .m; start = w .start; v = x; e = r; f = w .v; phase = w .phase; next = w .next + 1; circular = w .circular; after = set (w .after) (w .v - 1) (w .e); tail = set (w .tail) (w .e - w .n - 1) (w .f); marks = set (w .marks) (x - 1) (w .next + 32768) }; count = k + 2; area = events }) (trying w tree k area)
   unfolding enact
   tree-made h r is-r e {events = events} written =
       let link : r ≡ at 0 (closed w) (target w (w .e)) = is-r ∙ ap (at 0 (closed w)) is in
@@ -44,7 +44,8 @@ module _ (w : Config) (k : ℕ) (area : List ℕ) (x : ℕ) (is : x ≡ target w
       let more : w .next + 1 ≡ suc (w .next) = omega arith in
       let a : set (w .after) (w .v - 1) (w .e) ≡ closed w = store-first (w .after) (w .v) (w .e) in
       let t : set (w .tail) (w .e - w .n - 1) (w .f) ≡ put (w .n) (w .tail) (w .e) (w .f) = store-past (w .n) (w .tail) (w .e) (w .f) in
-      let m : set (w .marks) (x - 1) (w .next) ≡ put 0 (w .marks) (target w (w .e)) (w .next) = store-first (w .marks) x (w .next) ∙ (λ i. put 0 (w .marks) (is i) (w .next)) in
+      let number : w .next + 32768 ≡ labelMark (w .next) = omega arith in
+      let m : set (w .marks) (x - 1) (w .next + 32768) ≡ put 0 (w .marks) (target w (w .e)) (labelMark (w .next)) = store-first (w .marks) x (w .next + 32768) ∙ (λ i. put 0 (w .marks) (is i) (number i)) in
       let all : events ≡ pasted (3 * k) (2 ∷ w .e ∷ w .v ∷ 1 ∷ 0 ∷ target w (w .e) ∷ []) area = written ∙ (λ i. pasted (3 * k) (2 ∷ w .e ∷ w .v ∷ 1 ∷ 0 ∷ is i ∷ []) area) in
       (λ i. record { fit = true; config = record { n = w .n; m = w .m; start = w .start; v = is i; e = link i; f = w .v; phase = w .phase; next = more i; circular = w .circular; after = a i; tail = t i; marks = m i }; count = k + 2; area = all i })
       ∙ sym (fit-made w tree k area fit)
@@ -59,13 +60,13 @@ module _ (w : Config) (k : ℕ) (area : List ℕ) (vertex : isVertex (w .n) (tar
   unfolding fits at
   nontree-fits e = rw (vertex) e
 
-  pub nontree-made : isLink (w .n) (w .m) (getD (w .after) (w .e - 1) 0) ≡ true → {events : List ℕ} → events ≡ pasted (3 * k) (3 ∷ w .e ∷ w .v ∷ 4 ∷ w .e ∷ w .v ∷ []) area
-      → _≡_ {A = Attempt} (record { fit = true; config = record { n = w .n; m = w .m; start = w .start; v = w .v; e = getD (w .after) (w .e - 1) 0; f = w .e; phase = w .phase; next = w .next; circular = 1; after = set (w .after) (w .e - 1) (w .f); tail = w .tail; marks = w .marks }; count = k + 2; area = events }) (trying w nontree k area)
+  pub nontree-made : isLink (w .n) (w .m) (getD (w .after) (w .e - 1) 0) ≡ true → {circular : ℕ} → circular ≡ cond (circling w) 1 (w .circular) → {events : List ℕ} → events ≡ pasted (3 * k) (3 ∷ w .e ∷ w .v ∷ 4 ∷ w .e ∷ w .v ∷ []) area
+      → _≡_ {A = Attempt} (record { fit = true; config = record { n = w .n; m = w .m; start = w .start; v = w .v; e = getD (w .after) (w .e - 1) 0; f = w .e; phase = w .phase; next = w .next; circular = circular; after = set (w .after) (w .e - 1) (w .f); tail = w .tail; marks = w .marks }; count = k + 2; area = events }) (trying w nontree k area)
   unfolding enact
-  nontree-made e written =
+  nontree-made e figure written =
       let link : getD (w .after) (w .e - 1) 0 ≡ at 0 (w .after) (w .e) = sym (read-at (w .after) (w .e)) in
       let a : set (w .after) (w .e - 1) (w .f) ≡ put 0 (w .after) (w .e) (w .f) = store-first (w .after) (w .e) (w .f) in
-      (λ i. record { fit = true; config = record { n = w .n; m = w .m; start = w .start; v = w .v; e = link i; f = w .e; phase = w .phase; next = w .next; circular = 1; after = a i; tail = w .tail; marks = w .marks }; count = k + 2; area = written i })
+      (λ i. record { fit = true; config = record { n = w .n; m = w .m; start = w .start; v = w .v; e = link i; f = w .e; phase = w .phase; next = w .next; circular = figure i; after = a i; tail = w .tail; marks = w .marks }; count = k + 2; area = written i })
       ∙ sym (fit-made w nontree k area (nontree-fits e))
 
 -- t(e) and its mark, read by place.
@@ -76,7 +77,7 @@ module _ (w : Config) where
   pub target-vertex : isVertex (w .n) (getD (w .tail) (w .e - w .n - 1) 0) ≡ true → isVertex (w .n) (target w (w .e)) ≡ true
   target-vertex e = ap (isVertex (w .n)) word ∙ e
 
-  mark : getD (w .marks) (getD (w .tail) (w .e - w .n - 1) 0 - 1) 0 ≡ at 0 (w .marks) (target w (w .e))
+  pub mark : getD (w .marks) (getD (w .tail) (w .e - w .n - 1) 0 - 1) 0 ≡ at 0 (w .marks) (target w (w .e))
   mark = sym (read-at (w .marks) (getD (w .tail) (w .e - w .n - 1) 0)) ∙ ap (at 0 (w .marks)) (sym word)
 
 -- The step forward is picked by the mark of t(e); where t(e) is no vertex, neither fits.

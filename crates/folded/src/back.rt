@@ -14,7 +14,8 @@ ghost use mathlib.Core.Path.{_≡_};
 ghost use mathlib.Core.List.{List};
 ghost use Prim.Native.Nat.{ℕ, _+_, _*_, _≤_, _<_};
 ghost use lib.ListN.{length};
-ghost use Rattle.folding.specs.Machine.{relink, retreat, finish, undo-tree, undo-open};
+ghost use Rattle.lists.specs.Words.{at, put};
+ghost use Rattle.folding.specs.Machine.{scanMark, relink, retreat, finish, undo-tree, undo-open};
 ghost use Rattle.states.specs.Answers.{configOf};
 ghost use Rattle.folded.specs.Steps.{Ready, tried, trying, upwardIn};
 
@@ -73,16 +74,26 @@ fn tree_edge(s: State, after: &[u16], tail: &[u16]) -> u16
     r
 }
 
+// What the scan of v leaves in its mark: the remainder by 32,768 (document 02, item 5).
+fn unmark(marks: &mut [u16], v: u16)
+    requires { ⌜ (0 < v) × (v ≤ length (now marks)) ⌝ }
+    ensures { λ _. ⌜ now (marks .exit) ≡ put 0 (now (marks .entry)) v (scanMark (at 0 (now (marks .entry)) v)) ⌝ }
+{
+    let i = v as usize - 1;
+    marks[i] = marks[i] % 32768;
+}
+
 // Ends the scan of v, and goes back along the tree edge into it (document 01: Close).
 pub(crate) fn retreat(
     s: State,
     after: &mut [u16],
     tail: &mut [u16],
+    marks: &mut [u16],
     events: &mut [u16],
     made: usize,
 ) -> Tried
-    requires { ⌜ Ready s (length (now after)) (length (now tail)) (s .n + s .m) × (0 < s .f) × (s .f ≤ s .n) × (3 * made + 6 ≤ length (now events)) ⌝ }
-    ensures { λ r. ⌜ ((marks : List ℕ) → tried r (now (after .exit)) (now (tail .exit)) marks (now (events .exit)) ≡ trying (configOf s (now (after .entry)) (now (tail .entry)) marks) retreat made (now (events .entry))) ⌝ }
+    requires { ⌜ Ready s (length (now after)) (length (now tail)) (length (now marks)) × (0 < s .f) × (s .f ≤ s .n) × (3 * made + 6 ≤ length (now events)) ⌝ }
+    ensures { λ r. ⌜ tried r (now (after .exit)) (now (tail .exit)) (now (marks .exit)) (now (events .exit)) ≡ trying (configOf s (now (after .entry)) (now (tail .entry)) (now (marks .entry))) retreat made (now (events .entry)) ⌝ }
 {
     let n = s.n;
     let v = s.v.0;
@@ -102,6 +113,7 @@ pub(crate) fn retreat(
     let w = tail[j];
     tail[j] = v;
     after[i] = w;
+    unmark(marks, v);
     write_two(events, made, 6, 0, v, 5, r, f);
     let u = Vertex(f);
     let start = s.start;
@@ -124,9 +136,15 @@ pub(crate) fn retreat(
 }
 
 // Ends the scan of the start.
-pub(crate) fn finish(s: State, after: &mut [u16], events: &mut [u16], made: usize) -> Tried
-    requires { ⌜ (0 < s .v .0) × (s .v .0 ≤ length (now after)) × (3 * made + 6 ≤ length (now events)) ⌝ }
-    ensures { λ r. ⌜ ((tail marks : List ℕ) → tried r (now (after .exit)) tail marks (now (events .exit)) ≡ trying (configOf s (now (after .entry)) tail marks) finish made (now (events .entry))) ⌝ }
+pub(crate) fn finish(
+    s: State,
+    after: &mut [u16],
+    marks: &mut [u16],
+    events: &mut [u16],
+    made: usize,
+) -> Tried
+    requires { ⌜ (0 < s .v .0) × (s .v .0 ≤ length (now after)) × (s .v .0 ≤ length (now marks)) × (3 * made + 6 ≤ length (now events)) ⌝ }
+    ensures { λ r. ⌜ ((tail : List ℕ) → tried r (now (after .exit)) tail (now (marks .exit)) (now (events .exit)) ≡ trying (configOf s (now (after .entry)) tail (now (marks .entry))) finish made (now (events .entry))) ⌝ }
 {
     let v = s.v.0;
     if v != s.start.0 {
@@ -134,6 +152,7 @@ pub(crate) fn finish(s: State, after: &mut [u16], events: &mut [u16], made: usiz
     }
     let i = v as usize - 1;
     after[i] = s.e.0;
+    unmark(marks, v);
     write_one(events, made, 6, 0, v);
     let start = s.start;
     let at = s.v;

@@ -9,17 +9,17 @@ use images::is_link;
 use images::is_vertex;
 use states::State;
 ghost use mathlib.Core.Path.{_≡_};
-ghost use mathlib.Core.Bool.{true};
+ghost use mathlib.Core.Bool.{true, cond};
 ghost use mathlib.Core.List.{List};
 ghost use Prim.Native.Nat.{ℕ, _+_, _*_, _≤_, _<_};
 ghost use lib.ListN.{length};
 ghost use Rattle.lists.specs.Words.{at};
 ghost use Rattle.graphs.specs.Nodes.{isVertex};
-ghost use Rattle.folding.specs.Machine.{tree, nontree};
+ghost use Rattle.folding.specs.Machine.{tree, nontree, unscanned};
 ghost use Rattle.states.specs.Answers.{configOf};
 ghost use Rattle.folded.specs.Steps.{Ready, tried, trying, onward};
 
-// Goes on along e to x, which is not labelled: a(v) becomes e; v, f, t(e) become x, v, f; x is marked with the next label number.
+// Goes on along e to x, which is not labelled: a(v) becomes e; v, f, t(e) become x, v, f; x is marked 32,768 plus the next label number.
 fn tree(
     s: State,
     x: u16,
@@ -48,7 +48,7 @@ fn tree(
     let j = e as usize - n as usize - 1;
     tail[j] = s.f;
     let k = x as usize - 1;
-    marks[k] = label;
+    marks[k] = label + 32768; // not yet scanned
     write_two(events, made, 2, e, v, 1, 0, x);
     let u = Vertex(x);
     let start = s.start;
@@ -70,10 +70,20 @@ fn tree(
     }
 }
 
-// Passes e, which leads to a labelled vertex: e, f, a(e) become a(e), e, f.
-fn nontree(s: State, after: &mut [u16], events: &mut [u16], made: usize) -> Tried
+// Circular, once an edge was met that leads to a vertex with this mark: 1 where that is labelled and not yet scanned.
+fn circled(mark: u16, circular: u16) -> u16
+    ensures { λ r. ⌜ r ≡ cond (unscanned mark) 1 circular ⌝ }
+{
+    if mark >= 32768 {
+        return 1;
+    }
+    circular
+}
+
+// Passes e, which leads to a labelled vertex with this mark: e, f, a(e) become a(e), e, f.
+fn nontree(s: State, mark: u16, after: &mut [u16], events: &mut [u16], made: usize) -> Tried
     requires { ⌜ (0 < s .e .0) × (s .e .0 ≤ length (now after)) × (3 * made + 6 ≤ length (now events)) ⌝ }
-    ensures { λ r. ⌜ ((tail marks : List ℕ) → isVertex (s .n) (at (s .n) tail (s .e .0)) ≡ true → tried r (now (after .exit)) tail marks (now (events .exit)) ≡ trying (configOf s (now (after .entry)) tail marks) nontree made (now (events .entry))) ⌝ }
+    ensures { λ r. ⌜ ((tail marks : List ℕ) → isVertex (s .n) (at (s .n) tail (s .e .0)) ≡ true → mark ≡ at 0 marks (at (s .n) tail (s .e .0)) → tried r (now (after .exit)) tail marks (now (events .exit)) ≡ trying (configOf s (now (after .entry)) tail marks) nontree made (now (events .entry))) ⌝ }
 {
     let v = s.v.0;
     let e = s.e.0;
@@ -82,6 +92,7 @@ fn nontree(s: State, after: &mut [u16], events: &mut [u16], made: usize) -> Trie
     if !is_link(s.n, s.m, w) {
         return unfit(s, made);
     }
+    let circular = circled(mark, s.circular);
     after[i] = s.f;
     write_two(events, made, 3, e, v, 4, e, v);
     let start = s.start;
@@ -95,7 +106,7 @@ fn nontree(s: State, after: &mut [u16], events: &mut [u16], made: usize) -> Trie
         f: e,
         phase: s.phase,
         next: s.next,
-        circular: 1,
+        circular: circular,
     };
     Tried {
         fits: true,
@@ -123,8 +134,9 @@ pub(crate) fn advance(
         return unfit(s, made);
     }
     let k = x as usize - 1;
-    if marks[k] == 0 {
+    let mark = marks[k];
+    if mark == 0 {
         return tree(s, x, after, tail, marks, events, made);
     }
-    nontree(s, after, events, made)
+    nontree(s, mark, after, events, made)
 }

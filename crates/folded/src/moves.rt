@@ -38,9 +38,9 @@ fn go_back(
         return undo_tree(s, after, tail, made);
     }
     if f == 0 {
-        return finish(s, after, events, made);
+        return finish(s, after, marks, events, made);
     }
-    retreat(s, after, tail, events, made)
+    retreat(s, after, tail, marks, events, made)
 }
 
 // Makes the step to come, where the words that it reads are in kind.

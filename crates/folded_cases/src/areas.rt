@@ -39,6 +39,11 @@ pub(crate) const STORED: usize = 19;
 
 pub(crate) const CASE: usize = 20;
 
+// The colours of the search by a stack, while no step is made; the paths of a small profile, before there is a script.
+pub(crate) const COLOURS: usize = 19;
+
+pub(crate) const PATHS: usize = 18;
+
 // Words of a case. The state: what an opening sets comes first.
 pub(crate) const V: usize = 0;
 
@@ -67,7 +72,7 @@ pub(crate) const AT: usize = 11;
 
 pub(crate) const TOTAL: usize = 12;
 
-// What the search by a stack counts: vertices being scanned, event words, labels; and 1 where it met a nontree edge.
+// What the search by a stack counts: vertices being scanned, event words, labels; and 1 where an edge led to a vertex on the stack.
 pub(crate) const DEPTH: usize = 13;
 
 pub(crate) const WORDS: usize = 14;
@@ -106,6 +111,11 @@ pub(crate) const SCRIPTED: usize = 30;
 pub(crate) const HIGH: usize = 31;
 
 pub(crate) const LOW: usize = 32;
+
+// 1 where a vertex that is reached has a path to itself; where an edge was met, by the events so far, to a vertex not yet scanned.
+pub(crate) const CLOSED: usize = 33;
+
+pub(crate) const MET: usize = 34;
 
 // What an area for events holds before a case, in every word.
 pub(crate) const UNTOUCHED: u16 = 60001;

@@ -29,12 +29,15 @@ use crate::areas::nodes;
 use crate::areas::raise;
 use crate::areas::said;
 use crate::areas::say;
+use crate::circles::note_circle;
 use crate::compare::compare;
 use crate::drawn::damage;
 use crate::drawn::drawn;
 use crate::drawn::shorten_one;
 use crate::drawn::write_call;
+use crate::marks::note_marks;
 use crate::profiles::EXAMPLE;
+use crate::profiles::RISING;
 use crate::search::search;
 use crate::second::ORDER;
 use crate::second::REPLAY;
@@ -57,7 +60,7 @@ use crate::turns::ZEROS;
 use crate::turns::each;
 
 // A case with areas of this many words. Those of events, ten times as many, are untouched; the others are as the case before left them.
-fn clear(d: &mut Desk, room: u16, seed: u16) {
+pub(crate) fn clear(d: &mut Desk, room: u16, seed: u16) {
     let words = room % 5411 * 10;
     each(d, ZEROS + CASE, 19);
     each(d, EVENTS, words as usize);
@@ -83,7 +86,7 @@ fn make(d: &mut Desk, n: u16, m: u16, start: u16) {
     search(d);
 }
 
-// A small profile: the example, one vertex and no edge, or by chance.
+// A small profile: the example, one vertex and no edge, or by chance; of the rising family with edges enough to share vertices.
 fn make_small(d: &mut Desk, seed: u16) {
     clear(d, 32, seed);
     if seed / 1000 == EXAMPLE {
@@ -92,14 +95,24 @@ fn make_small(d: &mut Desk, seed: u16) {
     if seed % 1000 == 0 {
         return make(d, 1, 0, 1);
     }
+    if seed / 1000 == RISING {
+        return make(d, drawn(d, 9001, 4) % 4 + 3, drawn(d, 9002, 5) % 5 + 4, 1);
+    }
     let n = next(drawn(d, 9001, 6));
     make(d, n, drawn(d, 9002, 9), next(drawn(d, 9003, n)));
 }
 
-// A small profile of each family in turn; the case has this seed from then on.
+// A small profile of each family in turn, whose circles are told twice; the case has this seed from then on.
 fn make_next(d: &mut Desk, i: u16, seed: u16) {
-    make_small(d, i % 9 * 1000 + i / 9 % 1000);
+    make_small(d, i % 10 * 1000 + i / 10 % 1000);
+    note_circle(d);
     say(d, SEED, seed);
+}
+
+// Makes the call on the desk, after which marks and the circular figure are to follow from the events so far.
+fn make_call(d: &mut Desk) {
+    compare(d);
+    note_marks(d);
 }
 
 // Makes the calls of the script on the desk, up to one that is refused since all is over. What names no call is a single step.
@@ -113,7 +126,7 @@ fn perform(d: &mut Desk, top: usize) {
         if said(d, CALL) % 4 == 0 {
             say(d, CALL, STEP);
         }
-        compare(d);
+        make_call(d);
         i += 1;
     }
 }
@@ -229,8 +242,8 @@ fn write_long(d: &mut Desk, k: u16) {
 
 // Long profiles of each family but the last.
 pub(crate) fn long_case(d: &mut Desk, i: u16) {
-    let k = i / 8;
-    clear(d, 5410, i % 8 * 1000 + k);
+    let k = i / 9;
+    clear(d, 5410, i % 9 * 1000 + k);
     make_long(d, k);
     compare(d);
     if said(d, ANSWER) == 0 {
@@ -246,5 +259,5 @@ pub(crate) fn script_case(d: &mut Desk, i: u16) {
     say(d, SCRIPTED, drawn(d, 9004, 63));
     say(d, LENGTHS + 3, drawn(d, 9005, 300));
     say(d, CALL, REPLAY);
-    compare(d);
+    make_call(d);
 }

@@ -79,12 +79,26 @@ pub(crate) fn shorten_one(d: &mut Desk) {
     shorten(d, k, drawn(d, 9013, 5));
 }
 
+// A mark, of sixteen draws.
+fn mark_drawn(k: u16) -> u16 {
+    match k {
+        0..=7 => 0,
+        8..=9 => 1,
+        10 => 7,
+        11 => 32767,
+        12 => 32768,
+        13 => 32769,
+        14 => 65534,
+        _ => 65535,
+    }
+}
+
 // Word i of the after, tail and mark areas; half of the marks are 0.
 pub(crate) fn draw_words(d: &mut Desk, i: usize) {
     let k = i % 1000 * 3;
     put_at(d, AFTER, i, drawn_node(d, k));
     put_at(d, TAIL, i, drawn_node(d, k + 1));
-    put_at(d, MARKS, i, drawn(d, k + 2, 2));
+    put_at(d, MARKS, i, mark_drawn(drawn(d, k + 2, 16)));
 }
 
 // A field in its bounds. The sizes are as they are, and e is now and then 0.

@@ -1,12 +1,15 @@
 // Runs the calls of the folded search and of the panel on cases, and compares every answer, every lent word and the panel's figure with a
-// second implementation. One line is printed for each group of cases: how many there are, how many differ, and how many calls were taken,
-// refused with each number of document 01, or stopped for each reason. A shift start answers nothing and is not among the calls counted.
+// second implementation; marks and the circular figure of small profiles also with what follows from the events so far. One line is
+// printed for each group of cases: how many there are, how many differ, and how many calls were taken, refused with each number of
+// document 01, or stopped for each reason. A shift start answers nothing and is not among the calls counted.
 mod areas;
 mod calls;
 mod cases;
 mod chance;
+mod circles;
 mod compare;
 mod drawn;
+mod marks;
 mod moves;
 mod panels;
 mod profiles;
@@ -31,7 +34,8 @@ fn case(d: &mut Desk, group: u16, i: u16) {
         7 => cases::script_case(d, i),
         8 => panels::row_case(d, i),
         9 => panels::state_case(d, i),
-        _ => panels::list_case(d, i),
+        10 => panels::list_case(d, i),
+        _ => marks::example_case(d, i),
     }
 }
 
@@ -62,8 +66,9 @@ fn main() {
     print(b"halted after every step and rolled back", 3, 8640);
     print(b"lists of calls", 4, 10000);
     print(b"states and links by chance", 5, 20000);
-    print(b"limits", 6, 48);
+    print(b"limits", 6, 54);
     print(b"scripts", 7, 10000);
+    print(b"marks: examples", 11, 126);
     print(b"accepting: examples", 8, 108);
     print(b"accepting: states by chance", 9, 20000);
     print(b"panel: lists of orders", 10, 500);

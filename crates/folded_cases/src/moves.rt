@@ -32,6 +32,9 @@ use crate::turns::UNDONE;
 use crate::turns::ZEROS;
 use crate::turns::each;
 
+// What the mark of a vertex is more than its number from its label up to its scan.
+pub(crate) const UNSCANNED: u16 = 32768;
+
 fn note_down(d: &mut Desk, w: u16) {
     let k = said(d, KEPT) as usize;
     put_at(d, STORED, k, w);
@@ -71,6 +74,10 @@ fn set_after(d: &mut Desk, x: u16, w: u16) {
 
 fn set_tail(d: &mut Desk, e: u16, w: u16) {
     keep(d, TAIL, tail_place(d, e), w);
+}
+
+fn set_mark(d: &mut Desk, x: u16, w: u16) {
+    keep(d, MARKS, place(x), w);
 }
 
 fn emit_word(d: &mut Desk, w: u16) {
@@ -131,7 +138,7 @@ fn tree(d: &mut Desk, v: u16, e: u16, x: u16) -> bool {
         return false;
     }
     enter(d, v, e, x);
-    keep(d, MARKS, place(x), k);
+    set_mark(d, x, word(UNSCANNED as u64 + k as u64));
     set(d, NEXT, next(k));
     emit(d, 2, e, v);
     emit(d, 1, 0, x);
@@ -147,10 +154,13 @@ fn walk(d: &mut Desk, v: u16, e: u16) -> bool {
     if said(d, N) < x {
         return false;
     }
-    if get_of(d, MARKS, x) == 0 {
+    let mark = get_of(d, MARKS, x);
+    if mark == 0 {
         return tree(d, v, e, x);
     }
-    set(d, CIRCULAR, 1);
+    if UNSCANNED <= mark {
+        set(d, CIRCULAR, 1);
+    }
     emit(d, 3, e, v);
     emit(d, 4, e, v);
     pass(d, e)
@@ -203,10 +213,16 @@ fn reopen(d: &mut Desk) -> bool {
     pass(d, e)
 }
 
+// The scan of v is over.
+fn scan(d: &mut Desk, v: u16) {
+    set_mark(d, v, get_of(d, MARKS, v) % UNSCANNED);
+    emit(d, 6, 0, v);
+}
+
 fn close(d: &mut Desk, v: u16, f: u16, winding: bool) -> bool {
     set_after(d, v, said(d, E));
     if !winding {
-        emit(d, 6, 0, v);
+        scan(d, v);
     }
     if f == 0 {
         return close_start(d, v, winding);

@@ -15,8 +15,28 @@ use crate::areas::word;
 use crate::chance::draw;
 
 // Families of profiles: by chance, a ring, a star out of a vertex and one into it, all edges out of a few vertices, loops, two parts, a
-// path and edges by chance, and the printed example of document 01. A seed is of family seed / 1,000.
-pub(crate) const EXAMPLE: u16 = 8;
+// path and edges by chance, edges from lesser to greater vertices, and the printed example of document 01. A seed is of family
+// seed / 1,000.
+pub(crate) const RISING: u16 = 8;
+
+pub(crate) const EXAMPLE: u16 = 9;
+
+// The remainder, or 0.
+fn rest(a: u16, b: u16) -> u16 {
+    if b == 0 { 0 } else { a % b }
+}
+
+// In the rising family, what the vertex that edge i leaves is one more than: each but the last in turn.
+fn lesser(n: u16, i: u16) -> u16 {
+    rest(i, less(n, 1))
+}
+
+// What the vertex that it leads to is one more than, where r is a draw.
+fn greater(n: u16, i: u16, r: u16) -> u16 {
+    let k = lesser(n, i);
+    let above = rest(r, less(less(n, 1), k));
+    next(word(k as u64 + above as u64))
+}
 
 // What the vertex that edge i leaves is one more than, modulo n; r is a draw.
 fn from_of(family: u16, n: u16, i: u16, r: u16) -> u16 {
@@ -25,6 +45,7 @@ fn from_of(family: u16, n: u16, i: u16, r: u16) -> u16 {
         2 => 0,
         4 => if n == 0 { 0 } else { i / n },
         6 => r % 32768 * 2 + i % 2,
+        RISING => lesser(n, i),
         EXAMPLE => less(i, 1),
         _ => i,
     }
@@ -38,13 +59,14 @@ fn to_of(family: u16, n: u16, i: u16, r: u16) -> u16 {
         3 => 0,
         6 => r % 32768 * 2 + i % 2,
         7 => if i < n { next(i) } else { r },
+        RISING => greater(n, i, r),
         EXAMPLE => if i < 2 { i + 1 } else { i },
         _ => i,
     }
 }
 
 // A vertex at an end of edge i: the one that it leaves, or with 1 for the side the one that it leads to.
-fn end_of(d: &Desk, i: u16, side: u64) -> u16 {
+pub(crate) fn end_of(d: &Desk, i: u16, side: u64) -> u16 {
     let seed = said(d, SEED);
     let n = said(d, N);
     let r = draw(seed as u64, i as u64 * 2 + side % 2, n);

@@ -1,5 +1,6 @@
 // The whole search, by a stack of vertices with the edge next to traverse of each, over the links as loaded.
 use crate::areas::CIRCLE;
+use crate::areas::COLOURS;
 use crate::areas::DEPTH;
 use crate::areas::Desk;
 use crate::areas::FOUND;
@@ -24,6 +25,11 @@ use crate::turns::SEARCHED;
 use crate::turns::ZEROS;
 use crate::turns::each;
 
+// The colour of a vertex on the stack, and of one that was there.
+const GREY: u16 = 1;
+
+const BLACK: u16 = 2;
+
 fn list(d: &mut Desk, w: u16) {
     let at = said(d, WORDS) as usize;
     put_at(d, LIST, at, w);
@@ -45,6 +51,7 @@ fn go_behind(d: &mut Desk, k: usize, x: u16) {
 fn push(d: &mut Desk, k: u16, x: u16) {
     raise(d, LABELS, 1);
     put_of(d, FOUND, x, said(d, LABELS));
+    put_of(d, COLOURS, x, GREY);
     emit(d, 1, 0, x);
     say(d, DEPTH, k);
     put_at(d, STACK, k as usize, x);
@@ -60,7 +67,9 @@ fn edge(d: &mut Desk, k: u16, u: u16, e: u16) {
     }
     emit(d, 3, e, u);
     emit(d, 4, e, u);
-    say(d, CIRCLE, 1);
+    if get_of(d, COLOURS, x) == GREY {
+        say(d, CIRCLE, 1);
+    }
     go_behind(d, k as usize, e);
 }
 
@@ -87,6 +96,7 @@ pub(crate) fn turn_search(d: &mut Desk) {
         return edge(d, k, u, e);
     }
     emit(d, 6, 0, u);
+    put_of(d, COLOURS, u, BLACK);
     say(d, DEPTH, k - 1);
     go_back(d, k as usize - 1);
 }

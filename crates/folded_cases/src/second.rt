@@ -38,6 +38,7 @@ use crate::areas::said;
 use crate::areas::say;
 use crate::areas::whole;
 use crate::calls::check_image;
+use crate::moves::UNSCANNED;
 use crate::moves::emit;
 use crate::moves::step;
 use crate::turns::ZEROS;
@@ -216,7 +217,7 @@ fn number(d: &Desk, call: u16) -> u16 {
 // An opening that is taken.
 fn open(d: &mut Desk, start: u16) -> u16 {
     each(d, ZEROS + MARKS, nodes(d));
-    put_of(d, MARKS, start, 1);
+    put_of(d, MARKS, start, UNSCANNED + 1);
     emit(d, 1, 0, start);
     say(d, V, start);
     say(d, E, get_of(d, AFTER, start));

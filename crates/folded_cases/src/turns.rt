@@ -14,12 +14,19 @@ use crate::areas::get_at;
 use crate::areas::put_at;
 use crate::areas::say;
 use crate::areas::word;
+use crate::circles::join;
+use crate::circles::put_circle;
+use crate::circles::put_pair;
 use crate::drawn::draw_call;
 use crate::drawn::draw_field;
 use crate::drawn::draw_words;
 use crate::drawn::fault;
 use crate::drawn::write_back;
 use crate::drawn::write_call;
+use crate::marks::follow;
+use crate::marks::lay;
+use crate::marks::left;
+use crate::marks::meet;
 use crate::moves::undo;
 use crate::panels::put_word;
 use crate::profiles::make_edge;
@@ -58,6 +65,20 @@ pub(crate) const BACK: usize = 55;
 pub(crate) const LISTED: usize = 56;
 
 pub(crate) const ROWS: usize = 57;
+
+pub(crate) const PAIRS: usize = 58;
+
+pub(crate) const JOINS: usize = 59;
+
+pub(crate) const CIRCLES: usize = 60;
+
+pub(crate) const FOLLOWS: usize = 61;
+
+pub(crate) const MEETS: usize = 62;
+
+pub(crate) const LAID: usize = 63;
+
+pub(crate) const LEFT: usize = 64;
 
 // Notes how the links are loaded.
 fn hold(d: &mut Desk, i: usize) {
@@ -100,6 +121,13 @@ fn turn(d: &mut Desk, kind: usize, i: usize) {
         JAMS => write_call(d, i, RUN, 1000),
         BACK => back(d, i),
         ROWS => put_word(d, i),
+        PAIRS => put_pair(d, i),
+        JOINS => join(d, i),
+        CIRCLES => put_circle(d, i),
+        FOLLOWS => follow(d, i),
+        MEETS => meet(d, i),
+        LAID => lay(d, i),
+        LEFT => left(d, i),
         _ => same(d, EVENTS, LIST, i),
     }
 }

@@ -9,14 +9,15 @@ use native.Mathlib.Omega.{arith}
 use lib.ListN.{length}
 use lib.Dec.{eqb}
 use borrow.Author.Tests.{eqb-true, eqb-false}
-use Rattle.lists.specs.Members.{Same}
+use Rattle.lists.specs.Members.{Mem, Same}
 use Rattle.lists.proofs.Tests.{clash}
 use Rattle.lists.proofs.Counts.{same-sum, same-length}
 use Rattle.graphs.specs.Nodes.{Vertex}
 use Rattle.graphs.specs.Graph.{Reached, met}
 use Rattle.graphs.specs.Events.{Event, event, label, scan, History, labelled, scanned}
 use Rattle.graphs.specs.Depth.{DepthFirst}
-use Rattle.graphs.specs.Results.{marksLeft}
+use Rattle.graphs.specs.Results.{marksLeft, marksNow}
+use Rattle.graphs.specs.Circles.{circularOf}
 use Rattle.graphs.specs.Image.{Image, graphOf}
 use Rattle.graphs.specs.Refusals.{lent}
 use Rattle.graphs.specs.Claims.{Ready}
@@ -24,14 +25,15 @@ use Rattle.graphs.proofs.Refusals.{long}
 use Rattle.graphs.proofs.Sound.{Sound, Profile, profile-sound}
 use Rattle.graphs.proofs.Owned.{met-most, image-owned}
 use Rattle.graphs.proofs.Labels.{labels-few, reached-labels}
-use Rattle.graphs.proofs.Results.{named-length}
+use Rattle.graphs.proofs.Results.{named-length, marks-now-end}
+use Rattle.graphs.proofs.Circles.{circular}
 use Rattle.graphs.proofs.Depth.{depth-first, depth-relates}
 use Rattle.graphs.proofs.Room.{profile-ready}
 use Rattle.graphs.proofs.Places.{Frame, finishing}
 use Rattle.folding.specs.Machine.{Config, walking, restoring, finished, rollingBack, rolledBack}
 use Rattle.folding.specs.Calls.{Reason, ended, spent, stuck, Reply, unless, over, run, Call, runFor, numberOf, perform, serve, opening, openNumber, unopened, openedAt, openReply}
 use Rattle.folding.specs.Lines.{Line, begun, calls, lineA, lineB, folded}
-use Rattle.folding.specs.Claims.{circularOf, stopReason, Faultless, Labelling, Demand2, Agrees, Agreement}
+use Rattle.folding.specs.Claims.{stopReason, Faultless, Labelling, Demand2, Agrees, Agreement}
 use Rattle.folding.proofs.Future.{allOf, advances, scans, Short, short, prefix-of}
 use Rattle.folding.proofs.Invariant.{Trace, Scene, Holds, at-walking, at-restoring, at-rolling, at-end, at-undone, weight}
 use Rattle.folding.proofs.Runs.{run-stops}
@@ -138,26 +140,43 @@ module _ (g : Image) (S : Sound g) (start : ℕ) (hs : Vertex (g .n) start) (are
     events = λ e. absurd (phase-is ph finished (traceOf l (H .history)) v done rest s stale C n3 e);
     labels = λ e. absurd (phase-is ph finished (traceOf l (H .history)) v done rest s stale C n3 e);
     no-labels = λ e. absurd (phase-is ph rolledBack (traceOf l (H .history)) v done rest s stale C n5 e);
-    circular = ap (λ (w : Config). w .circular) (C .is-config) ∙ ap circularOf (sym (history-is l H));
+    marks-now = λ n. ap (λ (w : Config). w .marks) (C .is-config) ∙ ap (λ (h : History). marksNow (g .n + g .m) h area) (sym (history-is l H));
+    circle = λ e. absurd (phase-is ph finished (traceOf l (H .history)) v done rest s stale C n3 e);
+    circular = ap (λ (w : Config). w .circular) (C .is-config) ∙ ap (circularOf (graphOf g)) (sym (history-is l H));
   }
+
+  -- Line A scans all that it labels.
+  abbrev AllScanned : History → Type 0
+  AllScanned h = (x : ℕ) → Mem x (labelled h) → Mem x (scanned h)
+
+  all-scanned : AllScanned (allOf g start)
+  all-scanned x m =
+      let D = depth-first (graphOf g) [] start R .complete in
+      D .scans .exact x .1 (D .labels .exact x .0 m)
 
   labelling-of : (l : Line) (H : Held g S start hs area lm l) → Holds g start area (traceOf l (H .history)) → Labelling g start area l
   labelling-of l H (at-walking v done rest s stale C fut calm cnt) = labelling-open walking l H v done rest s stale (eqb-false walking finished refl) (eqb-false walking rolledBack refl) C
   labelling-of l H (at-restoring v done rest s stale C fut calm cnt) = labelling-open restoring l H v done rest s stale (eqb-false restoring finished refl) (eqb-false restoring rolledBack refl) C
   labelling-of l H (at-rolling v done rest s stale C sh ro cnt) = labelling-open rollingBack l H v done rest s stale (eqb-false rollingBack finished refl) (eqb-false rollingBack rolledBack refl) C
   labelling-of l H (at-end K e calm cnt) =
+      let figure : l .config .circular ≡ circularOf (graphOf g) (allOf g start) = ap (λ (w : Config). w .circular) (K .is-config) ∙ ap (circularOf (graphOf g)) e in
+      let C = circular (graphOf g) [] start R .0 in
       record {
         events = λ q. subst (DepthFirst (graphOf g) [] start) (sym (history-is l H ∙ e)) (depth-relates (graphOf g) [] start R);
-        labels = λ q. ap (λ (w : Config). w .marks) (K .is-config) ∙ ap (λ (h : History). marksLeft (g .n + g .m) h area) (sym (history-is l H));
+        labels = λ q. ap (λ (w : Config). w .marks) (K .is-config) ∙ marks-now-end (g .n + g .m) (H .history) area (subst AllScanned (sym e) all-scanned) ∙ ap (λ (h : History). marksLeft (g .n + g .m) h area) (sym (history-is l H));
         no-labels = λ q. absurd (eqb-false finished rolledBack refl (sym (ap (λ (w : Config). w .phase) (K .is-config)) ∙ q));
-        circular = ap (λ (w : Config). w .circular) (K .is-config) ∙ ap circularOf (sym (history-is l H));
+        marks-now = λ n. ap (λ (w : Config). w .marks) (K .is-config) ∙ ap (λ (h : History). marksNow (g .n + g .m) h area) (sym (history-is l H));
+        circular = ap (λ (w : Config). w .circular) (K .is-config) ∙ ap (circularOf (graphOf g)) (sym (history-is l H));
+        circle = λ q. (λ c. C .0 (sym figure ∙ c), λ c. figure ∙ C .1 c);
       }
   labelling-of l H (at-undone K x ro cnt) =
       record {
         events = λ q. absurd (eqb-false rolledBack finished refl (sym (ap (λ (w : Config). w .phase) (K .is-config)) ∙ q));
         labels = λ q. absurd (eqb-false rolledBack finished refl (sym (ap (λ (w : Config). w .phase) (K .is-config)) ∙ q));
         no-labels = λ q. ap (λ (w : Config). w .marks) (K .is-config);
-        circular = ap (λ (w : Config). w .circular) (K .is-config) ∙ ap circularOf (sym (history-is l H));
+        marks-now = λ n. absurd (n (ap (λ (w : Config). w .phase) (K .is-config)));
+        circular = ap (λ (w : Config). w .circular) (K .is-config) ∙ ap (circularOf (graphOf g)) (sym (history-is l H));
+        circle = λ q. absurd (eqb-false rolledBack finished refl (sym (ap (λ (w : Config). w .phase) (K .is-config)) ∙ q));
       }
 
   -- ---- a run that is long enough

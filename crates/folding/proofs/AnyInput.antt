@@ -16,7 +16,7 @@ use Rattle.graphs.specs.Refusals.{firstOf, lent}
 use Rattle.graphs.proofs.Refusals.{all-false, long}
 use Rattle.graphs.proofs.Sound.{profile-sound}
 use Rattle.graphs.proofs.Room.{words-length}
-use Rattle.folding.specs.Machine.{Config, rollingBack, canStep, step}
+use Rattle.folding.specs.Machine.{Config, rollingBack, labelMark, canStep, step}
 use Rattle.folding.specs.Calls.{Reason, Answer, ran, taken, refused, Reply, refusing, unless, workAreas, runNumber, stepRefusals, stepNumber, inPhase, run, Call, runFor, single, rollBack, areaOf, numberOf, perform, serve, unopened, openNumber, openedAt, openReply, opening}
 use Rattle.folding.specs.Lines.{folded}
 use Rattle.folding.specs.Claims.{Judged, Within, Confined, Demand1, StepClaim, Tested, toldRun, RunClaim}
@@ -95,10 +95,10 @@ open-confined g start marks area h =
       same-start = refl;
       after-length = refl;
       tail-length = refl;
-      marks-length = length-put 0 (cleared (g .n + g .m) marks) start 1 ∙ length-cleared (g .n + g .m) marks (a .0);
+      marks-length = length-put 0 (cleared (g .n + g .m) marks) start (labelMark 1) ∙ length-cleared (g .n + g .m) marks (a .0);
       after-past = refl;
       tail-past = refl;
-      marks-past = put-past 0 (g .n + g .m) (cleared (g .n + g .m) marks) start 1 (s .0) (omega arith) ∙ subst (λ (k : ℕ). drop k (cleared (g .n + g .m) marks) ≡ drop k marks) z (cleared-past (g .n + g .m) 0 marks);
+      marks-past = put-past 0 (g .n + g .m) (cleared (g .n + g .m) marks) start (labelMark 1) (s .0) (omega arith) ∙ subst (λ (k : ℕ). drop k (cleared (g .n + g .m) marks) ≡ drop k marks) z (cleared-past (g .n + g .m) 0 marks);
     })
     (b .0)
 

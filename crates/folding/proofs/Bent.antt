@@ -5,13 +5,13 @@ use Prim.Native.Nat.{ℕ, suc, _+_}
 use lib.ListN.{length}
 use Rattle.lists.specs.Words.{put}
 use Rattle.graphs.specs.Events.{History, labelled}
-use Rattle.graphs.specs.Results.{marksLeft}
-use Rattle.graphs.specs.Image.{Image}
+use Rattle.graphs.specs.Results.{marksNow}
+use Rattle.graphs.specs.Circles.{circularOf}
+use Rattle.graphs.specs.Image.{Image, graphOf}
 use Rattle.graphs.proofs.Sound.{head0}
 use Rattle.graphs.proofs.Places.{Frame, frame, parent}
 use Rattle.graphs.proofs.Tails.{bentTails}
 use Rattle.folding.specs.Machine.{Config}
-use Rattle.folding.specs.Claims.{circularOf}
 
 -- The trailer: the last edge passed, or the parent.
 abbrev pub top : List ℕ → ℕ → ℕ
@@ -33,8 +33,8 @@ bentTail g s = bentTails (λ du fs. top du (parent fs)) (g .n) (g .tail) s
 
 -- The state, links and marks at a place, after the events h; `area` is the mark area as it was lent, `stale` the word a(v).
 abbrev pub configAt : Image → ℕ → List ℕ → ℕ → ℕ → List ℕ → List ℕ → List Frame → ℕ → History → Config
-configAt g start area ph v done rest s stale h = record { n = g .n; m = g .m; start = start; v = v; e = head0 rest; f = top done (parent s); phase = ph; next = suc (length (labelled h)); circular = circularOf h; after = bend done (parent s) (put 0 (bentAfter g s) v stale); tail = bentTail g s; marks = marksLeft (g .n + g .m) h area }
+configAt g start area ph v done rest s stale h = record { n = g .n; m = g .m; start = start; v = v; e = head0 rest; f = top done (parent s); phase = ph; next = suc (length (labelled h)); circular = circularOf (graphOf g) h; after = bend done (parent s) (put 0 (bentAfter g s) v stale); tail = bentTail g s; marks = marksNow (g .n + g .m) h area }
 
 -- The same where the search has ended or is rolled back.
 abbrev pub configEnd : Image → ℕ → ℕ → ℕ → List ℕ → History → Config
-configEnd g start ph e marks h = record { n = g .n; m = g .m; start = start; v = start; e = e; f = 0; phase = ph; next = suc (length (labelled h)); circular = circularOf h; after = g .after; tail = g .tail; marks = marks }
+configEnd g start ph e marks h = record { n = g .n; m = g .m; start = start; v = start; e = e; f = 0; phase = ph; next = suc (length (labelled h)); circular = circularOf (graphOf g) h; after = g .after; tail = g .tail; marks = marks }

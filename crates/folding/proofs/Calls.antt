@@ -3,7 +3,7 @@
 use mathlib.Core.Path.{_≡_, refl, sym, ap, _∙_, subst}
 use mathlib.Core.Bool.{Bool, true, false, cond, _&&_, _||_, not}
 use mathlib.Core.List.{List, [], _∷_, _++_, append-nil, reverse, reverseAux}
-use Prim.Native.Nat.{ℕ, zero, suc, _+_, _*_, _≤_}
+use Prim.Native.Nat.{ℕ, suc, _+_, _*_, _≤_}
 use native.Mathlib.Omega.{arith}
 use native.Mathlib.Nat.{add-zero}
 use lib.ListN.{length}
@@ -15,8 +15,8 @@ use Rattle.lists.proofs.Tests.{clash, or-true, or-none}
 use Rattle.lists.proofs.Members.{mem-nil}
 use Rattle.lists.proofs.Words.{length-put, put-at, length-cleared}
 use Rattle.graphs.specs.Nodes.{Vertex}
-use Rattle.graphs.specs.Events.{Event, event, label, advance-nontree, count, History, _▸_, labelled}
-use Rattle.graphs.specs.Results.{marksLeft}
+use Rattle.graphs.specs.Events.{Event, event, label, History, _▸_, labelled}
+use Rattle.graphs.specs.Results.{marksNow}
 use Rattle.graphs.specs.Image.{Image, edgesOf, graphOf}
 use Rattle.graphs.specs.Refusals.{Refusal, refuse, firstOf, verticesOut, edgesOut, vertexOut}
 use Rattle.graphs.proofs.Nodes.{vertex-yes}
@@ -24,11 +24,12 @@ use Rattle.graphs.proofs.Labels.{Labels, labels-few}
 use Rattle.graphs.proofs.Sound.{Sound}
 use Rattle.graphs.proofs.Room.{profile-ready}
 use Rattle.graphs.proofs.Places.{Frame, parent, finishing, scene-first}
-use Rattle.graphs.proofs.Results.{marks-first, marks-length}
+use Rattle.graphs.proofs.Results.{marks-now-first, marks-now-length}
+use Rattle.graphs.proofs.Circles.{circular-bit}
 use Rattle.folding.specs.Machine.{Config, walking, restoring, finished, rollingBack, rolledBack, canStep, step}
 use Rattle.folding.specs.Calls.{Reason, ended, spent, stuck, Answer, ran, refused, refusing, unless, over, fieldsIn, stateNumber, workAreas, stepRefusals, inPhase, run, Call, runFor, single, rollBack, areaOf, numberOf, perform, serve, openedAt, runNumber, stepNumber, rollBackNumber}
 use Rattle.folding.specs.Lines.{Line, orders, addIf, noted, calls, folded}
-use Rattle.folding.specs.Claims.{flag, Faultless}
+use Rattle.folding.specs.Claims.{Faultless}
 use Rattle.folding.proofs.Bent.{bentAfter, configAt, configEnd}
 use Rattle.folding.proofs.Links.{length-bend, length-bentAfter, length-bentTail}
 use Rattle.folding.proofs.Steps.{link-rest, node-top}
@@ -36,10 +37,6 @@ use Rattle.folding.proofs.Future.{allOf, Short, short, in-order}
 use Rattle.folding.proofs.Invariant.{Trace, tick, Scene, Closed, Holds, at-walking, at-restoring, at-rolling, at-end, at-undone, Moves, move}
 use Rattle.folding.proofs.Fields.{fields-yes}
 use Rattle.folding.proofs.Running.{since-none, Calm, calm-more, Free, Ran, run-holds}
-
-flag-bit : (k : ℕ) → flag k ≤ 1
-flag-bit zero = omega arith
-flag-bit (suc k) = omega arith
 
 -- A line as a trace, its events the last of them first.
 abbrev pub traceOf : Line → History → Trace
@@ -93,8 +90,8 @@ module _ (g : Image) (S : Sound g) (start : ℕ) (hs : Vertex (g .n) start) (are
       (sized-at (configAt g start area ph v done rest s stale h) refl refl refl
       (length-bend done (parent s) (put 0 (bentAfter g s) v stale) ∙ length-put 0 (bentAfter g s) v stale ∙ length-bentAfter g s)
       (length-bentTail g s)
-      (marks-length (g .n + g .m) h area long)
-      (fields-yes (configAt g start area ph v done rest s stale h) (record { v-in = vertex-yes (g .n) v (P .vertex); e-in = link-rest g S start v done rest (P .vertex) (P .list); f-in = node-top g S start v done rest s (P .vertex) (P .list) (P .above); phase-in = k; next-low = n .0; next-high = n .1; circular-in = flag-bit (count advance-nontree h) })))
+      (marks-now-length (g .n + g .m) h area long)
+      (fields-yes (configAt g start area ph v done rest s stale h) (record { v-in = vertex-yes (g .n) v (P .vertex); e-in = link-rest g S start v done rest (P .vertex) (P .list); f-in = node-top g S start v done rest s (P .vertex) (P .list) (P .above); phase-in = k; next-low = n .0; next-high = n .1; circular-in = circular-bit (graphOf g) h })))
 
   closed-sized : (ph : ℕ) (marks : List ℕ) (t : Trace) → (ltb 0 ph && leb ph 6) ≡ true → length marks ≡ length area → Closed g start area ph marks t → Sized (t .config)
   closed-sized ph marks t k lm K =
@@ -102,13 +99,13 @@ module _ (g : Image) (S : Sound g) (start : ℕ) (hs : Vertex (g .n) start) (are
       let n = next-in (labelled h) start (K .labels) (K .seen) in
       subst Sized (sym (K .is-config))
       (sized-at (configEnd g start ph (K .e) marks h) refl refl refl refl refl lm
-      (fields-yes (configEnd g start ph (K .e) marks h) (record { v-in = vertex-yes (g .n) start hs; e-in = K .link; f-in = le-leb 0 (g .n + g .m) (omega arith); phase-in = k; next-low = n .0; next-high = n .1; circular-in = flag-bit (count advance-nontree h) })))
+      (fields-yes (configEnd g start ph (K .e) marks h) (record { v-in = vertex-yes (g .n) start hs; e-in = K .link; f-in = le-leb 0 (g .n + g .m) (omega arith); phase-in = k; next-low = n .0; next-high = n .1; circular-in = circular-bit (graphOf g) h })))
 
   sized : (t : Trace) → Holds g start area t → Sized (t .config)
   sized t (at-walking v done rest s stale C fut calm cnt) = scene-sized walking t v done rest s stale refl C
   sized t (at-restoring v done rest s stale C fut calm cnt) = scene-sized restoring t v done rest s stale refl C
   sized t (at-rolling v done rest s stale C sh ro cnt) = scene-sized rollingBack t v done rest s stale refl C
-  sized t (at-end K e calm cnt) = closed-sized finished (marksLeft (g .n + g .m) (t .history) area) t refl (marks-length (g .n + g .m) (t .history) area long) K
+  sized t (at-end K e calm cnt) = closed-sized finished (marksNow (g .n + g .m) (t .history) area) t refl (marks-now-length (g .n + g .m) (t .history) area long) K
   sized t (at-undone K e ro cnt) = closed-sized rolledBack (cleared (g .n + g .m) area) t refl (length-cleared (g .n + g .m) area long) K
 
   -- The number of a call that is lent links and marks: 3 where its event area is short, else its own.
@@ -175,7 +172,7 @@ module _ (g : Image) (S : Sound g) (start : ℕ) (hs : Vertex (g .n) start) (are
   ordered t = record { config = inPhase rollingBack (t .config); history = t .history; steps = t .steps + 0; rolling = t .rolling || true; since = addIf (t .rolling) (t .since) 0 }
 
   order-scene : (ph : ℕ) (t : Trace) (v : ℕ) (done rest : List ℕ) (s : List Frame) (stale : ℕ) → Scene g start area ph t v done rest s stale → Scene g start area rollingBack (ordered t) v done rest s stale
-  order-scene ph t v done rest s stale C = record { placed = C .placed; labels = C .labels; seen = C .seen; is-config = ap (inPhase rollingBack) (C .is-config); light = C .light }
+  order-scene ph t v done rest s stale C = record { placed = C .placed; labels = C .labels; seen = C .seen; scans = C .scans; is-config = ap (inPhase rollingBack) (C .is-config); light = C .light }
 
   order-first : (ph : ℕ) (t : Trace) (v : ℕ) (done rest ahead : List ℕ) (s : List Frame) (stale : ℕ) → Scene g start area ph t v done rest s stale → finishing (graphOf g) s v ahead (t .history) ≡ allOf g start → t .rolling ≡ false → Holds g start area (ordered t)
   order-first ph t v done rest ahead s stale C fut calm =
@@ -257,7 +254,8 @@ module _ (g : Image) (S : Sound g) (start : ℕ) (hs : Vertex (g .n) start) (are
               placed = F .placed;
               labels = F .labels;
               seen = F .seen;
-              is-config = ec ∙ (λ i. record { n = g .n; m = g .m; start = start; v = start; e = S .first start hs i; f = 0; phase = walking; next = 2; circular = 0; after = sym (put-at 0 (g .after) start) i; tail = g .tail; marks = marks-first (g .n + g .m) area start (hs .0) (omega arith) i });
+              scans = λ x m. absurd (mem-nil m);
+              is-config = ec ∙ (λ i. record { n = g .n; m = g .m; start = start; v = start; e = S .first start hs i; f = 0; phase = walking; next = 2; circular = 0; after = sym (put-at 0 (g .after) start) i; tail = g .tail; marks = marks-now-first (g .n + g .m) area start (hs .0) (omega arith) i });
               light = omega arith;
             })
             (F .future)

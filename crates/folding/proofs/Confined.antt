@@ -2,7 +2,7 @@
 -- the stated lengths; so does a run, and the words of its events fit its area.
 -- Each store of a step is at a node that the step has judged, or that a state field in kind names.
 use mathlib.Core.Path.{_≡_, refl, sym, _∙_}
-use mathlib.Core.Bool.{Bool, true, false, _&&_, not}
+use mathlib.Core.Bool.{Bool, true, false, cond, _&&_, not}
 use Prim.Native.Nat.{ℕ, zero, suc, _+_, _*_, _≤_}
 use native.Mathlib.Omega.{arith}
 use lib.ListN.{length, drop, length-append}
@@ -13,7 +13,7 @@ use Rattle.lists.proofs.Tests.{and-true, both}
 use Rattle.lists.proofs.Words.{length-put, length-cleared, put-past, cleared-past}
 use Rattle.graphs.specs.Nodes.{Vertex, isVertex, isEdge, isLink, isNode}
 use Rattle.graphs.proofs.Nodes.{vertex-is, edge-is, link-of-edge, link-not-null, link-node}
-use Rattle.folding.specs.Machine.{Config, walking, rollingBack, target, forward, fresh, tree, nontree, relink, retreat, finish, undo-tree, undo-open, pickStep, stepOf, closed, upward, fits, Stepped, relinked, enact, canStep, step}
+use Rattle.folding.specs.Machine.{Config, walking, rollingBack, target, forward, fresh, tree, nontree, relink, retreat, finish, undo-tree, undo-open, pickStep, stepOf, closed, upward, labelMark, scanMark, circling, scannedMarks, fits, Stepped, relinked, enact, canStep, step}
 use Rattle.folding.specs.Calls.{over, Run, proceed, run}
 use Rattle.folding.specs.Claims.{Within, KeepClaim}
 use Rattle.folding.proofs.Fields.{Fields, fields-yes, fields-are}
@@ -51,6 +51,13 @@ module _ (w : Config) (K : Fields w) (L : w .n ≤ length (w .marks)) where
   closed-past : drop (w .n + w .m) (closed w) ≡ drop (w .n + w .m) (w .after)
   closed-past = let v = v-is in put-past 0 (w .n + w .m) (w .after) (w .v) (w .e) (v .0) (omega arith)
 
+  -- The store of a scan.
+  marked-length : length (scannedMarks w) ≡ length (w .marks)
+  marked-length = length-put 0 (w .marks) (w .v) (scanMark (at 0 (w .marks) (w .v)))
+
+  marked-past : drop (w .n + w .m) (scannedMarks w) ≡ drop (w .n + w .m) (w .marks)
+  marked-past = let v = v-is in put-past 0 (w .n + w .m) (w .marks) (w .v) (scanMark (at 0 (w .marks) (w .v))) (v .0) (omega arith)
+
   tree-kept : (w .e ≡ 0 → ⊥) → fits w tree ≡ true → Kept w (enact w tree)
   unfolding fits enact
   tree-kept ne h =
@@ -63,9 +70,14 @@ module _ (w : Config) (K : Fields w) (L : w .n ≤ length (w .marks)) where
       let lo = K .next-low in
       record {
         fields = record { v-in = a .0; e-in = b .1; f-in = le-leb (w .v) (w .n + w .m) (omega arith); phase-in = K .phase-in; next-low = omega arith; next-high = omega arith; circular-in = K .circular-in };
-        within = record { same-n = refl; same-m = refl; same-start = refl; after-length = closed-length; tail-length = length-put (w .n) (w .tail) (w .e) (w .f); marks-length = length-put 0 (w .marks) (target w (w .e)) (w .next); after-past = closed-past; tail-past = put-past (w .n) (w .m) (w .tail) (w .e) (w .f) (e .0) (e .1); marks-past = put-past 0 (w .n + w .m) (w .marks) (target w (w .e)) (w .next) (x .0) (omega arith) };
+        within = record { same-n = refl; same-m = refl; same-start = refl; after-length = closed-length; tail-length = length-put (w .n) (w .tail) (w .e) (w .f); marks-length = length-put 0 (w .marks) (target w (w .e)) (labelMark (w .next)); after-past = closed-past; tail-past = put-past (w .n) (w .m) (w .tail) (w .e) (w .f) (e .0) (e .1); marks-past = put-past 0 (w .n + w .m) (w .marks) (target w (w .e)) (labelMark (w .next)) (x .0) (omega arith) };
         few = omega arith;
       }
+
+  -- The figure stays 0 or 1.
+  circled : (b : Bool) → cond b 1 (w .circular) ≤ 1
+  circled true = omega arith
+  circled false = K .circular-in
 
   nontree-kept : (w .e ≡ 0 → ⊥) → fits w nontree ≡ true → Kept w (enact w nontree)
   unfolding fits enact
@@ -73,7 +85,7 @@ module _ (w : Config) (K : Fields w) (L : w .n ≤ length (w .marks)) where
       let a = both (isVertex (w .n) (target w (w .e))) (isLink (w .n) (w .m) (at 0 (w .after) (w .e))) h in
       let e = link-not-null (w .n) (w .m) (w .e) (K .e-in) ne in
       record {
-        fields = record { v-in = K .v-in; e-in = a .1; f-in = link-node (w .n) (w .m) (w .e) (K .e-in); phase-in = K .phase-in; next-low = K .next-low; next-high = K .next-high; circular-in = omega arith };
+        fields = record { v-in = K .v-in; e-in = a .1; f-in = link-node (w .n) (w .m) (w .e) (K .e-in); phase-in = K .phase-in; next-low = K .next-low; next-high = K .next-high; circular-in = circled (circling w) };
         within = record { same-n = refl; same-m = refl; same-start = refl; after-length = length-put 0 (w .after) (w .e) (w .f); tail-length = refl; marks-length = refl; after-past = put-past 0 (w .n + w .m) (w .after) (w .e) (w .f) (omega arith) (omega arith); tail-past = refl; marks-past = refl };
         few = omega arith;
       }
@@ -96,7 +108,7 @@ module _ (w : Config) (K : Fields w) (L : w .n ≤ length (w .marks)) where
   unfolding enact
   finish-kept = record {
     fields = record { v-in = K .v-in; e-in = K .e-in; f-in = K .f-in; phase-in = refl; next-low = K .next-low; next-high = K .next-high; circular-in = K .circular-in };
-    within = record { same-n = refl; same-m = refl; same-start = refl; after-length = closed-length; tail-length = refl; marks-length = refl; after-past = closed-past; tail-past = refl; marks-past = refl };
+    within = record { same-n = refl; same-m = refl; same-start = refl; after-length = closed-length; tail-length = refl; marks-length = marked-length; after-past = closed-past; tail-past = refl; marks-past = marked-past };
     few = omega arith;
   }
 
@@ -123,7 +135,7 @@ module _ (w : Config) (K : Fields w) (L : w .n ≤ length (w .marks)) where
       let r = edge-is (w .n) (w .m) (upward w) (a .0) in
       record {
         fields = record { v-in = f-vertex c d; e-in = b .1; f-in = le-leb (upward w) (w .n + w .m) (r .1); phase-in = refl; next-low = K .next-low; next-high = K .next-high; circular-in = K .circular-in };
-        within = record { same-n = refl; same-m = refl; same-start = refl; after-length = length-put 0 (closed w) (upward w) (target w (upward w)) ∙ closed-length; tail-length = length-put (w .n) (w .tail) (upward w) (w .v); marks-length = refl; after-past = put-past 0 (w .n + w .m) (closed w) (upward w) (target w (upward w)) (omega arith) (omega arith) ∙ closed-past; tail-past = put-past (w .n) (w .m) (w .tail) (upward w) (w .v) (r .0) (r .1); marks-past = refl };
+        within = record { same-n = refl; same-m = refl; same-start = refl; after-length = length-put 0 (closed w) (upward w) (target w (upward w)) ∙ closed-length; tail-length = length-put (w .n) (w .tail) (upward w) (w .v); marks-length = marked-length; after-past = put-past 0 (w .n + w .m) (closed w) (upward w) (target w (upward w)) (omega arith) (omega arith) ∙ closed-past; tail-past = put-past (w .n) (w .m) (w .tail) (upward w) (w .v) (r .0) (r .1); marks-past = marked-past };
         few = omega arith;
       }
 

@@ -12,14 +12,14 @@ use Rattle.lists.specs.Words.{at, cleared}
 use Rattle.lists.proofs.Tests.{clash}
 use Rattle.lists.proofs.Members.{each-cons, memb-false}
 use Rattle.graphs.specs.Nodes.{Vertex, isLink}
-use Rattle.graphs.specs.Events.{event, label, advance-tree, advance-nontree, retreat-nontree, retreat-tree, scan, History, _▸_, known, labelled}
+use Rattle.graphs.specs.Events.{event, label, advance-tree, advance-nontree, retreat-nontree, retreat-tree, scan, History, _▸_, known, labelled, scanned}
 use Rattle.graphs.specs.Search.{recorder, cross, walkEdges}
-use Rattle.graphs.specs.Results.{marksLeft}
+use Rattle.graphs.specs.Results.{marksNow}
 use Rattle.graphs.specs.Image.{Image, edgesOf, to, graphOf}
 use Rattle.graphs.proofs.Labels.{Labels, label-ok}
 use Rattle.graphs.proofs.Sound.{head0, Sound, graph-closed}
 use Rattle.graphs.proofs.Places.{Frame, frame, path, Placed, deep, finishing, deep-unroll}
-use Rattle.graphs.proofs.Results.{marks-cleared}
+use Rattle.graphs.proofs.Results.{marks-now-cleared}
 use Rattle.folding.specs.Machine.{Config, walking, restoring, finished, rollingBack, rolledBack, Stepped}
 use Rattle.folding.specs.Calls.{over}
 use Rattle.folding.specs.Lines.{addIf}
@@ -53,6 +53,7 @@ module _ (g : Image) (start : ℕ) (area : List ℕ) where
     pub placed : Placed (graphOf g) start v done rest s
     pub labels : Labels (g .n) (labelled (t .history))
     pub seen : (x : ℕ) → Mem x (v ∷ path s) → Mem x (labelled (t .history))
+    pub scans : (x : ℕ) → Mem x (scanned (t .history)) → Mem x (labelled (t .history))
     pub is-config : t .config ≡ configAt g start area ph v done rest s stale (t .history)
     pub light : weight done s ≤ advances (t .history)
 
@@ -68,7 +69,7 @@ module _ (g : Image) (start : ℕ) (area : List ℕ) where
     at-walking : (v : ℕ) (done rest : List ℕ) (s : List Frame) (stale : ℕ) → Scene walking t v done rest s stale → finishing (graphOf g) s v rest (t .history) ≡ allOf g start → t .rolling ≡ false → t .steps + weight done s ≡ 2 * advances (t .history) + scans (t .history) → Holds t
     at-restoring : (v : ℕ) (done rest : List ℕ) (s : List Frame) (stale : ℕ) → Scene restoring t v done rest s stale → finishing (graphOf g) s v [] (t .history) ≡ allOf g start → t .rolling ≡ false → t .steps + weight done s ≡ 2 * advances (t .history) + scans (t .history) → Holds t
     at-rolling : (v : ℕ) (done rest : List ℕ) (s : List Frame) (stale : ℕ) → Scene rollingBack t v done rest s stale → Short (t .history) (allOf g start) → t .rolling ≡ true → t .since + suc (weight done s) ≤ advances (allOf g start) + scans (allOf g start) → Holds t
-    at-end : Closed finished (marksLeft (g .n + g .m) (t .history) area) t → t .history ≡ allOf g start → t .rolling ≡ false → t .steps ≡ 2 * advances (allOf g start) + scans (allOf g start) → Holds t
+    at-end : Closed finished (marksNow (g .n + g .m) (t .history) area) t → t .history ≡ allOf g start → t .rolling ≡ false → t .steps ≡ 2 * advances (allOf g start) + scans (allOf g start) → Holds t
     at-undone : Closed rolledBack (cleared (g .n + g .m) area) t → IsSuffix (t .history) (allOf g start) → t .rolling ≡ true → t .since ≤ advances (allOf g start) + scans (allOf g start) → Holds t
 
   pub record Moves (t : Trace) : Type 0 where
@@ -86,7 +87,7 @@ module _ (g : Image) (start : ℕ) (area : List ℕ) where
     relink-scene ph ph′ t v d ds rest s stale C =
         let P = C .placed in
         let k = C .light in
-        record { placed = record { vertex = P .vertex; list = P .list; above = P .above; distinct = P .distinct }; labels = C .labels; seen = C .seen; is-config = refl; light = omega arith }
+        record { placed = record { vertex = P .vertex; list = P .list; above = P .above; distinct = P .distinct }; labels = C .labels; seen = C .seen; scans = C .scans; is-config = refl; light = omega arith }
 
     -- Restoring, or walking with nothing ahead.
     back-move : (ph : ℕ) (t : Trace) (v : ℕ) (done rest : List ℕ) (s : List Frame) (stale : ℕ) → (eqb ph walking && not (eqb (head0 rest) 0)) ≡ false → eqb ph rollingBack ≡ false
@@ -98,8 +99,8 @@ module _ (g : Image) (start : ℕ) (area : List ℕ) where
       holds = at-restoring v ds (d ∷ rest) s stale (relink-scene ph restoring t v d ds rest s stale C) fut calm (omega arith);
     }
     back-move ph t v [] rest [] stale bk ro C fut calm cnt = record {
-      next = record { config = configEnd g start finished (head0 rest) (marksLeft (g .n + g .m) (t .history) area) (t .history ▸ event scan 0 v); events = event scan 0 v ∷ [] };
-      goes = goes-from (C .is-config) (finish-goes g S start area ph v rest stale (t .history) bk ro (C .placed));
+      next = record { config = configEnd g start finished (head0 rest) (marksNow (g .n + g .m) (t .history ▸ event scan 0 v) area) (t .history ▸ event scan 0 v); events = event scan 0 v ∷ [] };
+      goes = goes-from (C .is-config) (finish-goes g S start area ph v rest stale (t .history) bk ro (C .placed) (C .labels));
       holds = at-end
           (record { e = head0 rest; link = link-rest g S start v [] rest (C .placed .vertex) (C .placed .list); labels = C .labels; seen = subst (λ (x : ℕ). Mem x (labelled (t .history))) (C .placed .above) (C .seen v (here refl)); is-config = refl })
           fut calm
@@ -109,12 +110,12 @@ module _ (g : Image) (start : ℕ) (area : List ℕ) where
     }
     back-move ph t v [] rest (frame u du r ru ∷ s) stale bk ro C fut calm cnt = record {
       next = record { config = configAt g start area walking u (r ∷ du) ru s r (t .history ▸ event scan 0 v ▸ event retreat-tree r u); events = event scan 0 v ∷ event retreat-tree r u ∷ [] };
-      goes = goes-from (C .is-config) (retreat-goes g S start area ph v u rest du r ru s stale (t .history) bk ro (C .placed));
+      goes = goes-from (C .is-config) (retreat-goes g S start area ph v u rest du r ru s stale (t .history) bk ro (C .placed) (C .labels));
       holds =
           let P = down g S start v u rest du r ru s (C .placed) in
           let k = C .light in
           at-walking u (r ∷ du) ru s r
-          (record { placed = record { vertex = P .vertex; list = P .list; above = P .above; distinct = P .distinct }; labels = C .labels; seen = λ x m. C .seen x (there m); is-config = refl; light = omega arith })
+          (record { placed = record { vertex = P .vertex; list = P .list; above = P .above; distinct = P .distinct }; labels = C .labels; seen = λ x m. C .seen x (there m); scans = each-cons (λ x. Mem x (labelled (t .history))) v (scanned (t .history)) (C .seen v (here refl)) (C .scans); is-config = refl; light = omega arith })
           fut calm (omega arith);
     }
 
@@ -123,12 +124,12 @@ module _ (g : Image) (start : ℕ) (area : List ℕ) where
         → Scene walking t v done (r ∷ rs) s stale → finishing (graphOf g) s v rs (cross (recorder []) (graphOf g) (deep (graphOf g)) v r b (t .history)) ≡ allOf g start → t .rolling ≡ false → t .steps + weight done s ≡ 2 * advances (t .history) + scans (t .history) → Moves t
     front-move t v done r rs s stale true k C fut calm cnt = record {
       next = record { config = configAt g start area walking v (r ∷ done) rs s stale (t .history ▸ event advance-nontree r v ▸ event retreat-nontree r v); events = event advance-nontree r v ∷ event retreat-nontree r v ∷ [] };
-      goes = goes-from (C .is-config) (nontree-goes g S start area v done r rs s stale (t .history) (C .placed) k);
+      goes = goes-from (C .is-config) (nontree-goes g S start area v done r rs s stale (t .history) (C .placed) (C .labels) k);
       holds =
           let P = C .placed in
           let l = C .light in
           at-walking v (r ∷ done) rs s stale
-          (record { placed = record { vertex = P .vertex; list = P .list; above = P .above; distinct = P .distinct }; labels = C .labels; seen = C .seen; is-config = refl; light = omega arith })
+          (record { placed = record { vertex = P .vertex; list = P .list; above = P .above; distinct = P .distinct }; labels = C .labels; seen = C .seen; scans = C .scans; is-config = refl; light = omega arith })
           fut calm (omega arith);
     }
     front-move t v done r rs s stale false k C fut calm cnt =
@@ -141,10 +142,10 @@ module _ (g : Image) (start : ℕ) (area : List ℕ) where
         let l = C .light in
         record {
           next = record { config = configAt g start area walking (to g r) [] (edgesOf g (to g r)) (frame v done r rs ∷ s) (at 0 (bentAfter g (frame v done r rs ∷ s)) (to g r)) (h ▸ event advance-tree r v ▸ event label 0 (to g r)); events = event advance-tree r v ∷ event label 0 (to g r) ∷ [] };
-          goes = goes-from (C .is-config) (tree-goes g S start area v done r rs s stale h P k L Q);
+          goes = goes-from (C .is-config) (tree-goes g S start area v done r rs s stale h P k (λ m. new (C .scans (to g r) m)) L Q);
           holds =
               at-walking (to g r) [] (edgesOf g (to g r)) (frame v done r rs ∷ s) (at 0 (bentAfter g (frame v done r rs ∷ s)) (to g r))
-              (record { placed = Q; labels = L; seen = each-cons (λ x. Mem x (to g r ∷ labelled h)) (to g r) (v ∷ path s) (here refl) (λ x m. there (C .seen x m)); is-config = refl; light = omega arith })
+              (record { placed = Q; labels = L; seen = each-cons (λ x. Mem x (to g r ∷ labelled h)) (to g r) (v ∷ path s) (here refl) (λ x m. there (C .seen x m)); scans = λ x m. there (C .scans x m); is-config = refl; light = omega arith })
               (sym (ap (λ (i : History). finishing (graphOf g) s v rs (i ▸ event retreat-tree r v)) (deep-unroll (graphOf g) (graph-closed g S) (to g r) (h ▸ event advance-tree r v) hx new (C .labels))) ∙ fut)
               calm (omega arith);
         }
@@ -156,10 +157,10 @@ module _ (g : Image) (start : ℕ) (area : List ℕ) where
       holds = at-rolling v ds (d ∷ rest) s stale (relink-scene rollingBack rollingBack t v d ds rest s stale C) sh ro (rw ro (omega arith));
     }
     roll-move t v [] rest [] stale C sh ro cnt = record {
-      next = record { config = configEnd g start rolledBack (head0 rest) (cleared (g .n) (marksLeft (g .n + g .m) (t .history) area)) (t .history); events = [] };
+      next = record { config = configEnd g start rolledBack (head0 rest) (cleared (g .n) (marksNow (g .n + g .m) (t .history) area)) (t .history); events = [] };
       goes = goes-from (C .is-config) (undo-open-goes g S start area v rest stale (t .history) (C .placed));
       holds = at-undone
-          (record { e = head0 rest; link = link-rest g S start v [] rest (C .placed .vertex) (C .placed .list); labels = C .labels; seen = subst (λ (x : ℕ). Mem x (labelled (t .history))) (C .placed .above) (C .seen v (here refl)); is-config = ap (λ (m : List ℕ). configEnd g start rolledBack (head0 rest) m (t .history)) (marks-cleared (g .n) (g .m) (t .history) area (C .labels .all)) })
+          (record { e = head0 rest; link = link-rest g S start v [] rest (C .placed .vertex) (C .placed .list); labels = C .labels; seen = subst (λ (x : ℕ). Mem x (labelled (t .history))) (C .placed .above) (C .seen v (here refl)); is-config = ap (λ (m : List ℕ). configEnd g start rolledBack (head0 rest) m (t .history)) (marks-now-cleared (g .n) (g .m) (t .history) area (C .labels .all)) })
           (sh .first) ro (rw ro (omega arith));
     }
     roll-move t v [] rest (frame u du r ru ∷ s) stale C sh ro cnt = record {
@@ -168,7 +169,7 @@ module _ (g : Image) (start : ℕ) (area : List ℕ) where
       holds =
           let k = C .light in
           at-rolling u du (r ∷ ru) s r
-          (record { placed = down g S start v u rest du r ru s (C .placed); labels = C .labels; seen = λ x m. C .seen x (there m); is-config = refl; light = omega arith })
+          (record { placed = down g S start v u rest du r ru s (C .placed); labels = C .labels; seen = λ x m. C .seen x (there m); scans = C .scans; is-config = refl; light = omega arith })
           sh ro (rw ro (omega arith));
     }
 

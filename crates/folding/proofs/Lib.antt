@@ -1,9 +1,10 @@
--- On any input: the run's tests, the state fields, the areas, demand 1.
+-- On any input: the run's tests, the state fields, the areas, demand 1, the marks.
 pub mod Runs
 pub mod Fields
 pub mod Passed
 pub mod Confined
 pub mod AnyInput
+pub mod Marks
 -- On a sound profile: places, steps between them, the invariant, demands 2 and 3.
 pub mod Bent
 pub mod Links

@@ -8,7 +8,7 @@ use Rattle.graphs.specs.Nodes.{isVertex, isLink, isNode}
 use Rattle.graphs.specs.Events.{Event, event, label, words}
 use Rattle.graphs.specs.Image.{Image}
 use Rattle.graphs.specs.Refusals.{Refusal, refuse, firstOf, Lent, lent, sizeRefusals, vertexOut, figureOut, searchNumber}
-use Rattle.folding.specs.Machine.{Config, walking, restoring, finished, rollingBack, rolledBack, accepted, canStep, step}
+use Rattle.folding.specs.Machine.{Config, walking, restoring, finished, rollingBack, rolledBack, accepted, labelMark, canStep, step}
 
 -- Why a run stops.
 pub data Reason : Type 0 where
@@ -148,7 +148,7 @@ openNumber g start marks area = searchNumber g start (lent (g .n + g .m) marks �
 
 -- What an opening leaves: the marks are cleared and the start is labelled.
 abbrev pub openedAt : Image → ℕ → List ℕ → Config
-openedAt g start marks = record { n = g .n; m = g .m; start = start; v = start; e = at 0 (g .after) start; f = 0; phase = walking; next = 2; circular = 0; after = g .after; tail = g .tail; marks = put 0 (cleared (g .n + g .m) marks) start 1 }
+openedAt g start marks = record { n = g .n; m = g .m; start = start; v = start; e = at 0 (g .after) start; f = 0; phase = walking; next = 2; circular = 0; after = g .after; tail = g .tail; marks = put 0 (cleared (g .n + g .m) marks) start (labelMark 1) }
 
 -- An opening that is not refused.
 abbrev pub openReply : Image → ℕ → List ℕ → List ℕ → Reply

@@ -1,4 +1,4 @@
--- The cards P1 to P9 (document 01, "Cards for the proof table"), as rows of one table.
+-- The cards P1 to P9 (document 01, "Cards for the proof table") and those of document 02, item 5, as rows of one table.
 use mathlib.Core.Path.{_≡_}
 use mathlib.Core.List.{List, [], _∷_, reverse}
 use Prim.Native.Nat.{ℕ, _+_, _*_}
@@ -12,8 +12,9 @@ use Rattle.folding.specs.Lines.{Line, lineA, lineB, folded}
 
 -- What a card asks.
 pub data Question : Type 0 where
-  recursive-events folded-events steps marks number scan-order event-count : Question
-  tails-after roll-back-after : ℕ → Question
+  recursive-events folded-events steps marks circular number scan-order event-count : Question
+  tails-after marks-after roll-back-after : ℕ → Question
+  rolling-marks : ℕ → ℕ → Question
 
 -- Our line B, on marks that were not clear.
 abbrev line : Image → ℕ → List Call → Line
@@ -31,11 +32,14 @@ answerTo g start recursive-events = words (lineA g start)
 answerTo g start folded-events = words (line g start (whole g ∷ []) .events)
 answerTo g start steps = line g start (whole g ∷ []) .steps ∷ []
 answerTo g start marks = line g start (whole g ∷ []) .config .marks
+answerTo g start circular = line g start (whole g ∷ []) .config .circular ∷ []
 answerTo g start number = imageNumber g [] ∷ []
 answerTo g start scan-order = reverse (scanned (breadthFirst (graphOf g) [] start))
 answerTo g start event-count = length (breadthFirst (graphOf g) [] start) ∷ []
 answerTo g start (tails-after k) = line g start (runOf k ∷ []) .config .tail
+answerTo g start (marks-after k) = line g start (runOf k ∷ []) .config .marks
 answerTo g start (roll-back-after k) = line g start (runOf k ∷ rollBack ∷ whole g ∷ []) .since ∷ []
+answerTo g start (rolling-marks k j) = line g start (runOf k ∷ rollBack ∷ runOf j ∷ []) .config .marks
 
 -- A card: an image, a start, a question, its answer.
 pub data Card : Type 0 where
@@ -57,11 +61,24 @@ apart = record { n = 2; m = 1; after = 3 ∷ 0 ∷ 0 ∷ []; tail = 1 ∷ [] }
 abbrev shared : Image
 shared = record { n = 2; m = 1; after = 3 ∷ 3 ∷ 0 ∷ []; tail = 1 ∷ [] }
 
+-- References 1 to 2, 1 to 3 and 2 to 3 (document 02, item 5).
+abbrev sharedFile : Image
+sharedFile = record { n = 3; m = 3; after = 4 ∷ 6 ∷ 0 ∷ 5 ∷ 0 ∷ 0 ∷ []; tail = 2 ∷ 3 ∷ 3 ∷ [] }
+
+-- The circle of 2 and 3, with no reference from 1; and with a reference from 1 to 2.
+abbrev farCircle : Image
+farCircle = record { n = 3; m = 2; after = 0 ∷ 4 ∷ 5 ∷ 0 ∷ 0 ∷ []; tail = 3 ∷ 2 ∷ [] }
+
+abbrev nearCircle : Image
+nearCircle = record { n = 3; m = 3; after = 4 ∷ 5 ∷ 6 ∷ 0 ∷ 0 ∷ 0 ∷ []; tail = 2 ∷ 3 ∷ 2 ∷ [] }
+
 -- The printed events, three words each.
 abbrev events : List ℕ
 events = 1 ∷ 0 ∷ 1 ∷ 2 ∷ 4 ∷ 1 ∷ 1 ∷ 0 ∷ 2 ∷ 2 ∷ 6 ∷ 2 ∷ 1 ∷ 0 ∷ 3 ∷ 3 ∷ 7 ∷ 3 ∷ 4 ∷ 7 ∷ 3 ∷ 6 ∷ 0 ∷ 3 ∷ 5 ∷ 6 ∷ 2 ∷ 6 ∷ 0 ∷ 2 ∷ 5 ∷ 4 ∷ 1 ∷ 3 ∷ 5 ∷ 1 ∷ 4 ∷ 5 ∷ 1 ∷ 6 ∷ 0 ∷ 1 ∷ []
 
--- The table: P1 twice, for either line; P2; P3; P4; P5 in two rows; P6 in two rows; P7; P8; P9.
+-- The table: P1 twice, for either line; P2; P3; P4; P5 in two rows; P6 in two rows; P7; P8; P9. Then item 5: the figure of a shared file
+-- is 0, the printed case and a loop have 1, a circle 0 or 1 by whether it is reached; the marks after three steps, at the end, before the
+-- last step of a roll-back and after it.
 abbrev pub cards : List Card
 cards =
     card printed 1 recursive-events events
@@ -76,6 +93,15 @@ cards =
     ∷ card loop 1 steps (3 ∷ [])
     ∷ card apart 1 marks (1 ∷ 0 ∷ 0 ∷ [])
     ∷ card shared 1 number (7 ∷ [])
+    ∷ card sharedFile 1 circular (0 ∷ [])
+    ∷ card printed 1 circular (1 ∷ [])
+    ∷ card loop 1 circular (1 ∷ [])
+    ∷ card farCircle 1 circular (0 ∷ [])
+    ∷ card nearCircle 1 circular (1 ∷ [])
+    ∷ card sharedFile 1 (marks-after 3) (32769 ∷ 32770 ∷ 3 ∷ 0 ∷ 0 ∷ 0 ∷ [])
+    ∷ card sharedFile 1 marks (1 ∷ 2 ∷ 3 ∷ 0 ∷ 0 ∷ 0 ∷ [])
+    ∷ card sharedFile 1 (rolling-marks 3 2) (32769 ∷ 32770 ∷ 3 ∷ 0 ∷ 0 ∷ 0 ∷ [])
+    ∷ card sharedFile 1 (rolling-marks 3 3) (0 ∷ 0 ∷ 0 ∷ 0 ∷ 0 ∷ 0 ∷ [])
     ∷ []
 
 -- Every card has its answer.

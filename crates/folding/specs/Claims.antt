@@ -3,16 +3,17 @@ use mathlib.Core.Path.{_≡_}
 use mathlib.Core.Logic.{_↔_, _≢_, _⊎_}
 use mathlib.Core.Bool.{true, false, cond}
 use mathlib.Core.List.{List, [], _∷_, _++_, reverse, IsPrefix}
-use Prim.Native.Nat.{ℕ, zero, suc, _+_, _*_, _≤_, _<_}
+use Prim.Native.Nat.{ℕ, zero, suc, _+_, _*_, _%_, _≤_, _<_}
 use lib.ListN.{length, drop}
 use lib.Dec.{eqb}
-use Rattle.lists.specs.Words.{overlay, cleared}
+use Rattle.lists.specs.Words.{at, put, overlay, cleared}
 use Rattle.graphs.specs.Graph.{Reached, met}
-use Rattle.graphs.specs.Events.{History, advance-nontree, count, words}
+use Rattle.graphs.specs.Events.{Kind, label, advance-tree, advance-nontree, retreat-nontree, retreat-tree, scan, traverse, Event, event, words}
 use Rattle.graphs.specs.Depth.{DepthFirst}
-use Rattle.graphs.specs.Results.{marksLeft}
+use Rattle.graphs.specs.Results.{marksLeft, marksNow}
+use Rattle.graphs.specs.Circles.{Circular, circularOf}
 use Rattle.graphs.specs.Image.{Image, graphOf}
-use Rattle.folding.specs.Machine.{Config, finished, rolledBack, Stepped, canStep, step}
+use Rattle.folding.specs.Machine.{Config, finished, rollingBack, rolledBack, target, forward, Stepped, canStep, step}
 use Rattle.folding.specs.Calls.{Reason, ended, spent, stuck, Answer, ran, taken, refused, Reply, refusing, over, fieldsIn, Run, run, Call, runFor, single, areaOf, numberOf, perform, runNumber, stepNumber, openNumber, unopened, rollBack, rollBackNumber, openReply}
 use Rattle.folding.specs.Lines.{Walker, Line, lineA, lineB}
 
@@ -58,6 +59,32 @@ pub record StepClaim (W : Walker) : Type 0 where
 abbrev pub KeepClaim : Type 0
 KeepClaim = (w : Config) → fieldsIn w ≡ true → w .n ≤ length (w .marks) → canStep w ≡ true → (fieldsIn (step w .config) ≡ true) × Within w (step w .config)
 
+-- ---- marks and circular of a step (document 02, item 5)
+-- What one event leaves in the marks, where k is the next label number: labelling marks an element 32,768 plus its number, and its scan
+-- leaves the mark's remainder by 32,768.
+abbrev pub markBy : ℕ → Kind → ℕ → List ℕ → List ℕ
+markBy k label u marks = put 0 marks u (32768 + k)
+markBy k advance-tree u marks = marks
+markBy k advance-nontree u marks = marks
+markBy k retreat-nontree u marks = marks
+markBy k retreat-tree u marks = marks
+markBy k scan u marks = put 0 marks u (at 0 marks u % 32768)
+markBy k traverse u marks = marks
+
+-- What the events of a step leave in them.
+abbrev pub marksBy : ℕ → List Event → List ℕ → List ℕ
+marksBy k [] marks = marks
+marksBy k (event j r u ∷ es) marks = marksBy k es (markBy k j u marks)
+
+-- Of a step on any words: marks change by its events alone, so a roll-back, which has none, leaves them alone before its last step; the
+-- figure becomes 1 where the reference met leads to a mark of 32,768 or more, which counts as not yet scanned, and else it stays.
+pub record MarksClaim : Type 0 where
+  pub marks : (w : Config) → step w .config .phase ≢ rolledBack → step w .config .marks ≡ marksBy (w .next) (step w .events) (w .marks)
+  pub rolling : (w : Config) → w .phase ≡ rollingBack → step w .config .phase ≢ rolledBack → step w .config .marks ≡ w .marks
+  pub meets : (w : Config) → forward w ≡ true → 32768 ≤ at 0 (w .marks) (target w (w .e)) → step w .config .circular ≡ 1
+  pub passes : (w : Config) → forward w ≡ true → at 0 (w .marks) (target w (w .e)) < 32768 → step w .config .circular ≡ w .circular
+  pub back : (w : Config) → forward w ≡ false → step w .config .circular ≡ w .circular
+
 -- ---- the run's tests
 -- Why a run with a budget of k stops, after so many steps, here: by its tests, in their order.
 abbrev pub stopReason : ℕ → ℕ → Config → Reason
@@ -93,21 +120,16 @@ abbrev pub ComposeClaim : Type 0
 ComposeClaim = (a b : ℕ) (w : Config) → joined (run a w) (run (suc b) (run a w .config)) ≡ run (a + suc b) w
 
 -- ---- demand 2: events and labels
--- 1 where there is at least one, else 0.
-abbrev pub flag : ℕ → ℕ
-flag zero = 0
-flag (suc k) = 1
-
--- Circular, by the events.
-abbrev pub circularOf : History → ℕ
-circularOf h = flag (count advance-nontree h)
-
--- Ended, the events and marks are those of the depth-first search; rolled back, all marks are 0; circular is 1 where a nontree reference was met.
+-- Ended, the events and marks are those of the depth-first search, and circular is 1 exactly where some element reached has a path of one
+-- reference or more back to itself; rolled back, all marks are 0; until then each element labelled and not yet scanned has 32,768 more
+-- than its number; at any time circular is 1 where a reference was met that leads to such an element.
 pub record Labelling (g : Image) (start : ℕ) (marks : List ℕ) (l : Line) : Type 0 where
   pub events : l .config .phase ≡ finished → DepthFirst (graphOf g) [] start (reverse (l .events))
   pub labels : l .config .phase ≡ finished → l .config .marks ≡ marksLeft (g .n + g .m) (reverse (l .events)) marks
   pub no-labels : l .config .phase ≡ rolledBack → l .config .marks ≡ cleared (g .n + g .m) marks
-  pub circular : l .config .circular ≡ circularOf (reverse (l .events))
+  pub marks-now : l .config .phase ≢ rolledBack → l .config .marks ≡ marksNow (g .n + g .m) (reverse (l .events)) marks
+  pub circular : l .config .circular ≡ circularOf (graphOf g) (reverse (l .events))
+  pub circle : l .config .phase ≡ finished → (l .config .circular ≡ 1) ↔ Circular (graphOf g) [] start
 
 -- Demand 2 of the folded search: under every list of calls, and a run of 2 m + n steps ends.
 pub record Demand2 (W : Walker) : Type 0 where

@@ -1,11 +1,12 @@
 -- The folded depth-first search, step by step (document 01, "The folded depth-first walk"; its moves are steps here).
-use mathlib.Core.Bool.{Bool, true, false, _&&_, not}
+use mathlib.Core.Bool.{Bool, true, false, cond, _&&_, not}
 use mathlib.Core.List.{List, [], _∷_}
-use Prim.Native.Nat.{ℕ, suc}
+use Prim.Native.Nat.{ℕ, suc, _+_, _%_}
 use lib.Dec.{eqb, ltb, leb}
 use Rattle.lists.specs.Words.{at, put, cleared}
 use Rattle.graphs.specs.Nodes.{isVertex, isEdge, isLink, isNode}
 use Rattle.graphs.specs.Events.{Event, event, label, advance-tree, advance-nontree, retreat-nontree, retreat-tree, scan}
+use Rattle.graphs.specs.Results.{activeMark}
 
 -- A state with its links and marks: v the element being scanned, e the reference next to traverse or 0, f the trailer, next the next label number.
 pub record Config : Type 0 where
@@ -63,6 +64,28 @@ forward w = eqb (w .phase) walking && not (eqb (w .e) 0)
 abbrev pub fresh : Config → Bool
 fresh w = eqb (at 0 (w .marks) (target w (w .e))) 0
 
+-- ---- marks (document 02, item 5)
+-- Labelling marks an element 32,768 plus its number.
+abbrev pub labelMark : ℕ → ℕ
+labelMark k = activeMark + k
+
+-- Its scan leaves the mark's remainder by 32,768.
+abbrev pub scanMark : ℕ → ℕ
+scanMark mark = mark % activeMark
+
+-- A mark of 32,768 or more counts as not yet scanned.
+abbrev pub unscanned : ℕ → Bool
+unscanned mark = leb activeMark mark
+
+-- t(e) counts as not yet scanned, asked before any store.
+abbrev pub circling : Config → Bool
+circling w = unscanned (at 0 (w .marks) (target w (w .e)))
+
+-- The marks once v is scanned.
+abbrev pub scannedMarks : Config → List ℕ
+scannedMarks w = put 0 (w .marks) (w .v) (scanMark (at 0 (w .marks) (w .v)))
+
+-- ---- the step to come
 -- The step that comes: by whether the search goes forward, t(e) is unmarked, f is a reference, f is 0, and it is rolling back.
 abbrev pub pickStep : Bool → Bool → Bool → Bool → Bool → Step
 pickStep true true c d b = tree
@@ -108,11 +131,11 @@ relinked false = restoring
 -- What a step does: its stores in the paper's order, each reading what the earlier ones left.
 unfoldable pub enact : Config → Step → Stepped
 enact w tree = record {
-  config = record { n = w .n; m = w .m; start = w .start; v = target w (w .e); e = at 0 (closed w) (target w (w .e)); f = w .v; phase = w .phase; next = suc (w .next); circular = w .circular; after = closed w; tail = put (w .n) (w .tail) (w .e) (w .f); marks = put 0 (w .marks) (target w (w .e)) (w .next) };
+  config = record { n = w .n; m = w .m; start = w .start; v = target w (w .e); e = at 0 (closed w) (target w (w .e)); f = w .v; phase = w .phase; next = suc (w .next); circular = w .circular; after = closed w; tail = put (w .n) (w .tail) (w .e) (w .f); marks = put 0 (w .marks) (target w (w .e)) (labelMark (w .next)) };
   events = event advance-tree (w .e) (w .v) ∷ event label 0 (target w (w .e)) ∷ [];
 }
 enact w nontree = record {
-  config = record { n = w .n; m = w .m; start = w .start; v = w .v; e = at 0 (w .after) (w .e); f = w .e; phase = w .phase; next = w .next; circular = 1; after = put 0 (w .after) (w .e) (w .f); tail = w .tail; marks = w .marks };
+  config = record { n = w .n; m = w .m; start = w .start; v = w .v; e = at 0 (w .after) (w .e); f = w .e; phase = w .phase; next = w .next; circular = cond (circling w) 1 (w .circular); after = put 0 (w .after) (w .e) (w .f); tail = w .tail; marks = w .marks };
   events = event advance-nontree (w .e) (w .v) ∷ event retreat-nontree (w .e) (w .v) ∷ [];
 }
 enact w relink = record {
@@ -120,11 +143,11 @@ enact w relink = record {
   events = [];
 }
 enact w retreat = record {
-  config = record { n = w .n; m = w .m; start = w .start; v = w .f; e = at 0 (closed w) (upward w); f = upward w; phase = walking; next = w .next; circular = w .circular; after = put 0 (closed w) (upward w) (target w (upward w)); tail = put (w .n) (w .tail) (upward w) (w .v); marks = w .marks };
+  config = record { n = w .n; m = w .m; start = w .start; v = w .f; e = at 0 (closed w) (upward w); f = upward w; phase = walking; next = w .next; circular = w .circular; after = put 0 (closed w) (upward w) (target w (upward w)); tail = put (w .n) (w .tail) (upward w) (w .v); marks = scannedMarks w };
   events = event scan 0 (w .v) ∷ event retreat-tree (upward w) (w .f) ∷ [];
 }
 enact w finish = record {
-  config = record { n = w .n; m = w .m; start = w .start; v = w .v; e = w .e; f = w .f; phase = finished; next = w .next; circular = w .circular; after = closed w; tail = w .tail; marks = w .marks };
+  config = record { n = w .n; m = w .m; start = w .start; v = w .v; e = w .e; f = w .f; phase = finished; next = w .next; circular = w .circular; after = closed w; tail = w .tail; marks = scannedMarks w };
   events = event scan 0 (w .v) ∷ [];
 }
 enact w undo-tree = record {

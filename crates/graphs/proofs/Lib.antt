@@ -9,6 +9,7 @@ pub mod Follow
 pub mod DepthGrowth
 pub mod DepthCounts
 pub mod Depth
+pub mod Circles
 pub mod Results
 pub mod Places
 pub mod Tails
@@ -18,3 +19,4 @@ pub mod Room
 pub mod Examples
 pub mod Trees
 pub mod Renamed
+pub mod CirclesRenamed

@@ -56,7 +56,7 @@ module _ (f : ℕ → ℕ) where
       go true e = refl
       go false e = e
 
-  rename-edge : (r : ℕ) → 0 < r → rename f r ≡ f r
+  pub rename-edge : (r : ℕ) → 0 < r → rename f r ≡ f r
   rename-edge r h = ap (λ (b : Bool). cond b 0 (f r)) (zero-test r h)
 
 -- ---- corresponding graphs

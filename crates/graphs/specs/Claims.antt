@@ -15,6 +15,7 @@ use Rattle.graphs.specs.Depth.{DepthFirst}
 use Rattle.graphs.specs.Breadth.{BreadthFirst}
 use Rattle.graphs.specs.Search.{recorder, search, depthFirst, drain, breadthFirst}
 use Rattle.graphs.specs.Results.{marksLeft, incrementLeft}
+use Rattle.graphs.specs.Circles.{Circular, circularOf}
 use Rattle.graphs.specs.Image.{Image, edgesOf, to, graphOf}
 use Rattle.graphs.specs.ArrayForm.{ArrayForm, arrayGraph, arrayLeft, numbersLeft}
 use Rattle.graphs.specs.Refusals.{Lent, short, imageAreas, sound, imageNumber, searchNumber, arrayNumber}
@@ -62,6 +63,11 @@ DepthFirstClaim = (G : Graph) (before : List ℕ) (start : ℕ) → Ready G befo
 -- Demand 2, breadth-first.
 abbrev pub BreadthFirstClaim : Type 0
 BreadthFirstClaim = (G : Graph) (before : List ℕ) (start : ℕ) → Ready G before start → BreadthClaim G before start (breadthFirst G before start)
+
+-- Of every graph, vertices labelled beforehand and start, the figure of the whole depth-first search is 1 exactly where some vertex reached
+-- has a path of one edge or more back to itself, off the vertices labelled beforehand, and else 0.
+abbrev pub CircularClaim : Type 0
+CircularClaim = (G : Graph) (before : List ℕ) (start : ℕ) → Ready G before start → ((circularOf G (depthFirst G before start) ≡ 1) ↔ Circular G before start) × (circularOf G (depthFirst G before start) ≤ 1)
 
 -- A search is taken exactly where the profile is sound and the areas are as long as stated.
 abbrev pub SoundClaim : Type 0

@@ -4,6 +4,7 @@ pub mod Events
 pub mod Depth
 pub mod Breadth
 pub mod Search
+pub mod Circles
 pub mod Results
 pub mod Image
 pub mod ArrayForm

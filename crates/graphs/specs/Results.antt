@@ -1,13 +1,14 @@
 -- What a search leaves in the areas lent to a walker, as functions of its events (document 01, "Events").
 use mathlib.Core.Bool.{Bool, cond, _&&_}
 use mathlib.Core.List.{List, [], _∷_, reverse}
-use Prim.Native.Nat.{ℕ, max}
+use Prim.Native.Nat.{ℕ, _+_, max}
 use lib.Dec.{eqb}
 use Rattle.lists.specs.Members.{memb}
 use Rattle.lists.specs.Counts.{rank}
 use Rattle.lists.specs.Words.{at, overlay, filled}
 use Rattle.graphs.specs.Graph.{Graph}
 use Rattle.graphs.specs.Events.{event, advance-tree, History, words, same, labelled}
+use Rattle.graphs.specs.Circles.{active}
 
 -- The event area: the events in order; the words past the last event stay.
 abbrev pub eventsLeft : History → List ℕ → List ℕ
@@ -16,6 +17,18 @@ eventsLeft h area = overlay (words (reverse h)) area
 -- The marks of k nodes: 1 for the start, then 2, 3 and on in order of labelling, 0 for the rest.
 abbrev pub marksLeft : ℕ → History → List ℕ → List ℕ
 marksLeft k h area = filled (λ x. rank x (labelled h)) k area
+
+-- What an element labelled and not yet scanned has in its mark beside its number, in a folded walk (document 02, item 5).
+abbrev pub activeMark : ℕ
+activeMark = 32768
+
+-- The mark of x while a folded walk is under way: its number, and 32,768 more until it is scanned.
+abbrev pub markNow : History → ℕ → ℕ
+markNow h x = cond (active x h) (activeMark + rank x (labelled h)) (rank x (labelled h))
+
+-- The marks of k nodes while a folded walk is under way.
+abbrev pub marksNow : ℕ → History → List ℕ → List ℕ
+marksNow k h area = filled (markNow h) k area
 
 -- The queue area: the labelled elements in order, then 0.
 abbrev pub queueLeft : ℕ → History → List ℕ → List ℕ

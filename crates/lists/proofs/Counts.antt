@@ -76,6 +76,15 @@ pub sum-same : (f g : ℕ → ℕ) → ((x : ℕ) → f x ≡ g x) → (l : List
 sum-same f g e [] = refl
 sum-same f g e (x ∷ l) = let a = e x in let b = sum-same f g e l in omega arith
 
+-- A sum that is not 0 has a term that is not 0.
+pub sum-some : (f : ℕ → ℕ) (l : List ℕ) → 1 ≤ sumOf f l → (x : ℕ) × Mem x l × (1 ≤ f x)
+sum-some f [] h = absurd (omega arith)
+sum-some f (x ∷ l) h = go (f x) refl (sum-some f l)
+  where
+    go : (k : ℕ) → f x ≡ k → (1 ≤ sumOf f l → (y : ℕ) × Mem y l × (1 ≤ f y)) → (y : ℕ) × Mem y (x ∷ l) × (1 ≤ f y)
+    go zero e ih = let a = ih (omega arith) in (a .0, there (a .1), a .2)
+    go (suc k) e ih = (x, here refl, omega arith)
+
 pub length-sum : (l : List ℕ) → length l ≡ sumOf (λ x. 1) l
 length-sum [] = refl
 length-sum (x ∷ l) = let h = length-sum l in omega arith
@@ -185,3 +194,11 @@ rank-test x (y ∷ l) = go (eqb x y) (rank-test x l)
     go : (b : Bool) → eqb (rank x l) 0 ≡ not (memb x l) → eqb (cond b (suc (length l)) (rank x l)) 0 ≡ not (b || memb x l)
     go true ih = zero-test (suc (length l)) (omega arith)
     go false ih = ih
+
+pub rank-most : (x : ℕ) (l : List ℕ) → rank x l ≤ length l
+rank-most x [] = omega arith
+rank-most x (y ∷ l) = go (eqb x y) (rank-most x l)
+  where
+    go : (b : Bool) → rank x l ≤ length l → cond b (suc (length l)) (rank x l) ≤ suc (length l)
+    go true h = omega arith
+    go false h = omega arith

@@ -95,6 +95,10 @@ pub values-same : (f g : ℕ → ℕ) (b k : ℕ) → ((x : ℕ) → b < x → x
 values-same f g b zero h = refl
 values-same f g b (suc k) h = λ i. h (suc b) (omega arith) (omega arith) i ∷ values-same f g (suc b) k (λ x p q. h x (omega arith) (omega arith)) i
 
+-- Areas filled with the same values are the same.
+pub filled-same : (f g : ℕ → ℕ) (k : ℕ) (area : List ℕ) → ((x : ℕ) → 0 < x → x ≤ k → f x ≡ g x) → filled f k area ≡ filled g k area
+filled-same f g k area h = ap (λ (ws : List ℕ). ws ++ drop k area) (values-same f g 0 k (λ x p q. h x p (omega arith)))
+
 -- The value w at u, and f elsewhere.
 abbrev pub but : (ℕ → ℕ) → ℕ → ℕ → ℕ → ℕ
 but f u w x = cond (eqb x u) w (f x)

@@ -1,4 +1,4 @@
--- Document 01's printed example: by computation, numbers from the claim of what is written.
+-- Document 01's printed example and document 02's shared file: by computation, numbers from the claim of what is written.
 use mathlib.Core.Path.{_≡_, refl, ap, _∙_}
 use mathlib.Core.Bool.{true}
 use mathlib.Core.List.{List, [], _∷_, _++_}
@@ -15,7 +15,7 @@ use Rattle.numbers.proofs.Numbers.{writing-claim}
 use Rattle.graphs.specs.Search.{depthFirst, search, walkEdges}
 use Rattle.report.specs.Printed.{walkPrinted}
 use Rattle.report.specs.Report.{graphFrom}
-use Rattle.report.specs.Example.{exampleText, paddedText, examplePrinted, example, ExampleClaim}
+use Rattle.report.specs.Example.{exampleText, paddedText, examplePrinted, example, ExampleClaim, sharedText, sharedPrinted, shared, SharedFileClaim}
 
 says : listingOf exampleText ≡ some example
 unfolding listingOf headAt linesAt lineAt fieldAt numberAt
@@ -43,3 +43,15 @@ prints = rw (digit 0 refl, digit 1 refl, digit 2 refl, digit 3 refl, digit 4 ref
 -- The printed example.
 pub printed-example : ExampleClaim
 printed-example = record { says = says; padded-says = padded-says; one-text = one-text; prints = prints }
+
+-- ---- the shared file
+shared-says : listingOf sharedText ≡ some shared
+unfolding listingOf headAt linesAt lineAt fieldAt numberAt
+shared-says = refl
+
+shared-prints : walkPrinted (graphFrom shared) (shared .start) ≡ sharedPrinted
+unfolding walkPrinted depthFirst search walkEdges at
+shared-prints = rw (digit 0 refl, digit 1 refl, digit 2 refl, digit 3 refl, digit 4 refl, digit 5 refl, digit 6 refl, digit 9 refl)
+
+pub shared-file : SharedFileClaim
+shared-file = record { says = shared-says; prints = shared-prints }

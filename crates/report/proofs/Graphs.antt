@@ -1,6 +1,6 @@
 -- The walk of the image that a text leaves in two areas is that of the graph that the text says; so is what is printed of it.
 -- The lists and targets of the two graphs agree, so keeping every edge's number is a renaming of the one to the other.
-use mathlib.Core.Path.{_≡_, refl, sym, ap, _∙_}
+use mathlib.Core.Path.{_≡_, refl, sym, ap, _∙_, subst}
 use mathlib.Core.Bool.{Bool, false, cond, not, _||_}
 use mathlib.Core.List.{List, [], _∷_, _++_, map, reverse}
 use Prim.Native.Nat.{ℕ, zero, suc, _+_, _-_, _*_, _≤_}
@@ -12,21 +12,24 @@ use Rattle.lists.specs.Members.{Mem, here, there}
 use Rattle.lists.specs.Counts.{sumOf}
 use Rattle.lists.specs.Words.{at, overlay}
 use Rattle.lists.proofs.Tests.{zero-test}
-use Rattle.graphs.specs.Nodes.{Edge}
+use Rattle.lists.proofs.Members.{mem-nil}
+use Rattle.graphs.specs.Nodes.{Vertex, Edge}
 use Rattle.graphs.specs.Graph.{met}
 use Rattle.graphs.specs.Events.{event, History, _▸_, words, labelled, rename, renamed}
 use Rattle.graphs.specs.Results.{marksLeft, eventsLeft}
+use Rattle.graphs.specs.Circles.{circularOf}
 use Rattle.graphs.specs.Image.{Image, edgesOf, to, graphOf}
 use Rattle.graphs.specs.Refusals.{Lent, lent, short}
+use Rattle.graphs.specs.Claims.{Ready}
 use Rattle.graphs.proofs.Refusals.{taken-sound}
 use Rattle.graphs.proofs.Sound.{Profile, profile-sound, graph-closed}
 use Rattle.graphs.proofs.Labels.{reached-labels}
 use Rattle.graphs.proofs.Depth.{depth-first}
 use Rattle.graphs.proofs.Room.{words-length, profile-ready, room}
 use Rattle.graphs.proofs.Renamed.{Renaming, depth-renamed}
+use Rattle.graphs.proofs.CirclesRenamed.{circular-renamed}
 use Rattle.walks.specs.Promises.{depthWalk}
 use Rattle.folding.specs.Calls.{openNumber}
-use Rattle.folding.specs.Claims.{circularOf}
 use Rattle.images.specs.Checking.{image}
 use Rattle.texts.specs.Text.{Line, Listing, row}
 use Rattle.texts.specs.Loading.{Reading, loaded, reading, afterOf, tailOf, imageIn, afterLeft, tailLeft}
@@ -118,6 +121,18 @@ module _ (text after tail marks events : List ℕ) (p : Listing) (e : reading te
         targets = λ u r hu m. same-target r (S .edge u r hu m);
       }
 
+  -- A search of that graph may begin.
+  pub search-ready : Ready (graphFrom p) [] (p .start)
+  search-ready =
+      let S = P .sound in
+      record {
+        closed = λ u r hu m. (let k = subst (Mem r) (sym (L .lists u hu)) m in subst (Vertex (p .n)) (same-target r (S .edge u r hu k)) (graph-closed g S u r hu k));
+        vertices = λ x m. absurd (mem-nil m);
+        once = tt;
+        start-vertex = P .start-vertex;
+        start-fresh = mem-nil;
+      }
+
   -- The events of its walk.
   abbrev h : History
   h = depthWalk g (p .start)
@@ -133,6 +148,10 @@ module _ (text after tail marks events : List ℕ) (p : Listing) (e : reading te
       let N = reached-labels (graphOf g) [] (p .start) R (labelled h) (depth-first (graphOf g) [] (p .start) R .complete .labels) in
       sum-members (λ u. length (edgesOf g u)) (λ u. length (graphFrom p .out u)) (labelled h) (λ u m. ap length (L .lists u (N .all u m)))
 
+  -- So the figure is the same.
+  same-circular : circularOf (graphOf g) h ≡ circularOf (graphFrom p) h
+  same-circular = circular-renamed same-graph [] (p .start) (profile-ready g (P .sound) (p .start) (P .start-vertex)) ∙ ap (circularOf (graphFrom p)) (sym same-walk)
+
   -- At most 10,000 events.
   few-events : length h ≤ 10000
   unfolding openNumber
@@ -144,7 +163,7 @@ module _ (text after tail marks events : List ℕ) (p : Listing) (e : reading te
   same-printed =
       let many : length (words (reverse h)) ≡ 3 * length h = omega (arith, words-length (reverse h), length-reverse h) in
       let lines : rows (take (3 * length h) (eventsLeft h events)) ≡ eventRows (reverse h) = ap rows (take-at (words (reverse h)) (drop (length (words (reverse h))) events) (3 * length h) many) ∙ rows-events (reverse h) in
-      (λ i. eventNames ++ (lines i ++ (totalNames ++ row (length (labelled h) ∷ (2 * same-met i + length (labelled h)) ∷ circularOf h ∷ []))))
+      (λ i. eventNames ++ (lines i ++ (totalNames ++ row (length (labelled h) ∷ (2 * same-met i + length (labelled h)) ∷ same-circular i ∷ []))))
       ∙ ap (printedOf (graphFrom p)) same-walk
 
 -- ---- walking it

@@ -6,3 +6,4 @@ pub mod Fits
 pub mod Example
 pub mod Padding
 pub mod Plain
+pub mod Circles

@@ -10,6 +10,7 @@ use borrow.Rule.Slice.PartMut.{midOf, putMid}
 use Rattle.lists.specs.Words.{overlay}
 use Rattle.lists.proofs.Words.{length-overlay}
 use Rattle.graphs.specs.Events.{Event, History, labelled, words}
+use Rattle.graphs.specs.Circles.{circularOf}
 use Rattle.graphs.specs.Image.{Image, graphOf}
 use Rattle.graphs.specs.Results.{marksLeft, eventsLeft}
 use Rattle.graphs.proofs.Results.{marks-length}
@@ -20,7 +21,7 @@ use Rattle.folding.specs.Machine.{Config, finished}
 use Rattle.folding.specs.Calls as reply
 use Rattle.folding.specs.Calls.{unless, Call, runFor, serve, unopened, openReply, opening}
 use Rattle.folding.specs.Lines.{Line, begun, calls, lineB, folded}
-use Rattle.folding.specs.Claims.{circularOf, Agrees, Labelling}
+use Rattle.folding.specs.Claims.{Agrees, Labelling}
 use Rattle.folding.proofs.Agreement.{profile, marks-long, agreement, demand2}
 use Rattle.folding.proofs.Totals.{steps-few, events-few, next-counts}
 use Rattle.states.specs.declared.values.Reply.{Reply}
@@ -145,7 +146,7 @@ module _ {g : Image} {start : ℕ} {marks area : List ℕ} (K : CanWalk g start 
           let many : r .events + 1 ≡ length all = omega (arith, one, made, ap length events-are, length-reverse all) in
           let elements : r .state .next - 1 ≡ length (labelled all) = omega arith in
           let moves : r .steps ≡ movesOf (graphOf g) (labelled all) = omega (arith, none, moves-are) in
-          let circular : r .state .circular ≡ circularOf all = ap (λ (w : Config). w .circular) config-is ∙ labelling .circular ∙ ap circularOf history-is in
+          let circular : r .state .circular ≡ circularOf (graphOf g) all = ap (λ (w : Config). w .circular) config-is ∙ labelling .circular ∙ ap (circularOf (graphOf g)) history-is in
           let restored = agrees .restored (inl ended) in
           let labels : marks′ ≡ marksLeft (g .n + g .m) all marks = ap (λ (w : Config). w .marks) config-is ∙ labelling .labels ended ∙ ap (λ (h : History). marksLeft (g .n + g .m) h marks) history-is in
           let events : putMid 3 54000 area₁ part ≡ eventsLeft all area = ap (λ (s : Seen). s .area) seen ∙ ap (λ (es : List Event). overlay (words es) area) events-are in

@@ -1,14 +1,20 @@
--- What is claimed of texts that differ in padding (document 02, item 2), as types; proofs/Padding and proofs/Plain have the theorems.
+-- What is claimed of texts that differ in padding (document 02, item 2) and of the figure that is printed (item 5), as types; proofs/Padding,
+-- proofs/Plain and proofs/Circles have the theorems.
 -- `walk_text` promises `reportOf`: its number, the bytes that it prints and every lent area, of any text on any areas.
 use mathlib.Core.Path.{_≡_}
+use mathlib.Core.Logic.{_↔_}
 use mathlib.Core.Bool.{false}
-use mathlib.Core.List.{List}
-use Prim.Native.Nat.{ℕ}
+use mathlib.Core.List.{List, [], _∷_, _++_, reverse}
+use mathlib.Core.Option.{some}
+use Prim.Native.Nat.{ℕ, _≤_}
 use lib.ListN.{length, take}
+use Rattle.graphs.specs.Events.{labelled}
+use Rattle.graphs.specs.Circles.{Circular}
 use Rattle.graphs.specs.Refusals.{textOut}
 use Rattle.numbers.specs.Padding.{hasPadding, unpad}
-use Rattle.texts.specs.Text.{listingOf}
-use Rattle.report.specs.Report.{Told, reportOf}
+use Rattle.texts.specs.Text.{Listing, listingOf, row}
+use Rattle.report.specs.Printed.{eventNames, totalNames, eventRows, movesOf}
+use Rattle.report.specs.Report.{Told, graphFrom, walkFrom, reportOf}
 
 -- Two texts get the same number, print the same bytes and leave every area alike, on any areas.
 abbrev pub Alike : List ℕ → List ℕ → Type 0
@@ -28,3 +34,16 @@ printed t = take (t .bytes) (t .output)
 -- They have no padding, of any text on any areas.
 abbrev pub PlainClaim : Type 0
 PlainClaim = (text after tail marks events output : List ℕ) → hasPadding (printed (reportOf text after tail marks events output)) ≡ false
+
+-- The lines that a walk prints: names, the events, names, then elements reached, moves and the figure. That is 1 exactly where some element
+-- reached has a path of one reference or more back to itself, and else 0.
+pub record PrintsFigure (p : Listing) (bytes : List ℕ) : Type 0 where
+  pub figure : ℕ
+  pub lines : bytes ≡ eventNames ++ (eventRows (reverse (walkFrom p)) ++ (totalNames ++ row (length (labelled (walkFrom p)) ∷ movesOf (graphFrom p) (labelled (walkFrom p)) ∷ figure ∷ [])))
+  pub circle : (figure ≡ 1) ↔ Circular (graphFrom p) [] (p .start)
+  pub bit : figure ≤ 1
+
+-- Of every text that is walked, on any areas.
+abbrev pub PrintedFigureClaim : Type 0
+PrintedFigureClaim = (text after tail marks events output : List ℕ) (p : Listing) → listingOf text ≡ some p → reportOf text after tail marks events output .number ≡ 0
+    → PrintsFigure p (printed (reportOf text after tail marks events output))

@@ -1,4 +1,4 @@
--- The example that document 01 prints, byte for byte: a profile's text, and what `walk` prints for it.
+-- The example that document 01 prints and that of document 02, item 5, byte for byte: a profile's text, and what `walk` prints for it.
 use mathlib.Core.Path.{_≡_}
 use mathlib.Core.List.{List, [], _∷_}
 use mathlib.Core.Option.{some}
@@ -62,3 +62,39 @@ pub record ExampleClaim : Type 0 where
   pub padded-says : listingOf paddedText ≡ some example
   pub one-text : unpad paddedText ≡ exampleText
   pub prints : walkPrinted (graphFrom example) (example .start) ≡ examplePrinted
+
+-- ---- a shared file: references 1 to 2, 1 to 3 and 2 to 3, started at 1 (document 02, item 5)
+abbrev pub sharedText : List ℕ
+sharedText =
+    101 ∷ 108 ∷ 101 ∷ 109 ∷ 101 ∷ 110 ∷ 116 ∷ 115 ∷ 44 ∷ 114 ∷ 101 ∷ 102 ∷ 101 ∷ 114 ∷ 101 ∷ 110 ∷ 99 ∷ 101 ∷ 115 ∷ 44 ∷ 115 ∷ 116 ∷ 97 ∷ 114 ∷ 116 ∷ 10
+    ∷ 51 ∷ 44 ∷ 51 ∷ 44 ∷ 49 ∷ 10
+    ∷ 102 ∷ 114 ∷ 111 ∷ 109 ∷ 44 ∷ 116 ∷ 111 ∷ 10
+    ∷ 49 ∷ 44 ∷ 50 ∷ 10
+    ∷ 49 ∷ 44 ∷ 51 ∷ 10
+    ∷ 50 ∷ 44 ∷ 51 ∷ 10 ∷ []
+
+abbrev pub sharedPrinted : List ℕ
+sharedPrinted =
+    101 ∷ 118 ∷ 101 ∷ 110 ∷ 116 ∷ 44 ∷ 114 ∷ 101 ∷ 102 ∷ 101 ∷ 114 ∷ 101 ∷ 110 ∷ 99 ∷ 101 ∷ 44 ∷ 101 ∷ 108 ∷ 101 ∷ 109 ∷ 101 ∷ 110 ∷ 116 ∷ 10
+    ∷ 49 ∷ 44 ∷ 48 ∷ 44 ∷ 49 ∷ 10
+    ∷ 50 ∷ 44 ∷ 52 ∷ 44 ∷ 49 ∷ 10
+    ∷ 49 ∷ 44 ∷ 48 ∷ 44 ∷ 50 ∷ 10
+    ∷ 50 ∷ 44 ∷ 54 ∷ 44 ∷ 50 ∷ 10
+    ∷ 49 ∷ 44 ∷ 48 ∷ 44 ∷ 51 ∷ 10
+    ∷ 54 ∷ 44 ∷ 48 ∷ 44 ∷ 51 ∷ 10
+    ∷ 53 ∷ 44 ∷ 54 ∷ 44 ∷ 50 ∷ 10
+    ∷ 54 ∷ 44 ∷ 48 ∷ 44 ∷ 50 ∷ 10
+    ∷ 53 ∷ 44 ∷ 52 ∷ 44 ∷ 49 ∷ 10
+    ∷ 51 ∷ 44 ∷ 53 ∷ 44 ∷ 49 ∷ 10
+    ∷ 52 ∷ 44 ∷ 53 ∷ 44 ∷ 49 ∷ 10
+    ∷ 54 ∷ 44 ∷ 48 ∷ 44 ∷ 49 ∷ 10
+    ∷ 101 ∷ 108 ∷ 101 ∷ 109 ∷ 101 ∷ 110 ∷ 116 ∷ 115 ∷ 44 ∷ 109 ∷ 111 ∷ 118 ∷ 101 ∷ 115 ∷ 44 ∷ 99 ∷ 105 ∷ 114 ∷ 99 ∷ 117 ∷ 108 ∷ 97 ∷ 114 ∷ 10
+    ∷ 51 ∷ 44 ∷ 57 ∷ 44 ∷ 48 ∷ 10 ∷ []
+
+abbrev pub shared : Listing
+shared = record { n = 3; m = 3; start = 1; lines = line 1 2 ∷ line 1 3 ∷ line 2 3 ∷ [] }
+
+-- Its figure is 0.
+pub record SharedFileClaim : Type 0 where
+  pub says : listingOf sharedText ≡ some shared
+  pub prints : walkPrinted (graphFrom shared) (shared .start) ≡ sharedPrinted

@@ -5,7 +5,7 @@ use lib.ListN.{length}
 use Rattle.graphs.specs.Graph.{Graph, met}
 use Rattle.graphs.specs.Events.{Event, event, code, History, labelled}
 use Rattle.graphs.specs.Search.{depthFirst}
-use Rattle.folding.specs.Claims.{circularOf}
+use Rattle.graphs.specs.Circles.{circularOf}
 use Rattle.texts.specs.Text.{comma, lineFeed, row}
 
 -- The line of names `event,reference,element`.
@@ -35,7 +35,7 @@ movesOf G vs = 2 * met G vs + length vs
 
 -- The events, then elements reached, moves and circular.
 abbrev pub totalsOf : Graph → History → List ℕ
-totalsOf G h = length (labelled h) ∷ movesOf G (labelled h) ∷ circularOf h ∷ []
+totalsOf G h = length (labelled h) ∷ movesOf G (labelled h) ∷ circularOf G h ∷ []
 
 abbrev pub printedOf : Graph → History → List ℕ
 printedOf G h = eventNames ++ (eventRows (reverse h) ++ (totalNames ++ row (totalsOf G h)))

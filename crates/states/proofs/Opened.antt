@@ -6,7 +6,8 @@ use mathlib.Core.List.{List, [], _∷_}
 use Prim.Native.Nat.{ℕ, _+_, _≤_}
 use native.Mathlib.Omega.{arith}
 use lib.ListN.{length}
-use Rattle.lists.specs.Words.{overlay}
+use Rattle.lists.specs.Words.{put, overlay, cleared}
+use Rattle.lists.proofs.Words.{put-put}
 use Rattle.graphs.specs.Nodes.{Vertex}
 use Rattle.graphs.specs.Events.{event, label, words, _▸_}
 use Rattle.graphs.specs.Image.{Image}
@@ -46,10 +47,10 @@ module _ (g : Image) (start : ℕ) (marks area : List ℕ) {k : ℕ} (e : k ≡ 
       let a = long (g .n + g .m) marks (lent 3 area ∷ []) (P .areas-long) in
       record { start-vertex = P .start-vertex; long-after = P .sound .long-after; long-marks = a .0; long-area = long 3 area [] (a .1) .0 }
 
-  pub opened : {marks′ area′ : List ℕ} {t : Progress} → k ≡ 0 → Starts (g .n + g .m) start marks area marks′ area′ t → (marks′ ≡ openedAt g start marks .marks) × (area′ ≡ overlay (words (event label 0 start ∷ [])) area)
+  pub opened : {marks′ area′ : List ℕ} {t : Progress} → k ≡ 0 → Starts (g .n + g .m) start marks area marks′ area′ t → (put 0 marks′ start 32769 ≡ openedAt g start marks .marks) × (area′ ≡ overlay (words (event label 0 start ∷ [])) area)
   opened z w =
       let O = opens z in
       let x = O .start-vertex in
       let R : Roomy (g .n + g .m) ([] ▸ event label 0 start) marks area = record { long-marks = O .long-marks; room = O .long-area; few = omega arith } in
       let H = beginning R (omega arith) start (x .0) (omega arith) w in
-      (H .marked ∙ sym (marks-first (g .n + g .m) marks start (x .0) (omega arith)), H .written)
+      (ap (λ (l : List ℕ). put 0 l start 32769) (H .marked ∙ sym (marks-first (g .n + g .m) marks start (x .0) (omega arith))) ∙ put-put 0 (cleared (g .n + g .m) marks) start 1 32769, H .written)

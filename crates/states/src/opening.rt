@@ -65,6 +65,7 @@ pub fn open(
     }
     begin(marks, events, nodes, x);
     let i = x as usize - 1;
+    marks[i] = 32769; // 32,768 more than its number, since it is not yet scanned
     let e = Edge(after[i]);
     let s = State {
         n: n,

@@ -24,7 +24,7 @@ use Rattle.folding.proofs.AnyInput.{demand1}
 use Rattle.folding.proofs.Agreement.{profile, demand2, agreement}
 use Rattle.states.specs.Answers.{Seen, seenOf}
 use Rattle.scripts.specs.Script.{scripted, replayed}
-use Rattle.walkers.specs.TwoLines.{LineAClaim, Kept, Account, written, opened, added, account, accountOf, TieClaim, Labels, LabelsClaim, Agree, TwoLinesClaim, ReplayClaim}
+use Rattle.walkers.specs.TwoLines.{LineAClaim, Kept, Account, written, opened, added, account, accountOf, TieClaim, Labels, LabelsClaim, ReplayLabelsClaim, Agree, TwoLinesClaim, ReplayClaim}
 
 -- ---- line A
 -- The words of events stand in front of the area that they are written to, three for each.
@@ -79,10 +79,22 @@ labelled g start marks area h cs =
       events = λ f. ap words (sym (reverse-reverse (l .events)) ∙ ap reverse (D .one (reverse (l .events)) .0 (L .events f)));
       labels = λ f. L .labels f ∙ ap (λ (i : History). marksLeft (g .n + g .m) i marks) (D .one (reverse (l .events)) .0 (L .events f));
       no-labels = L .no-labels;
+      circle = L .circle;
+      history = reverse (l .events);
+      so-far = ap words (sym (reverse-reverse (l .events)));
+      circular = L .circular;
+      marks-now = L .marks-now;
     }
 
 pub labels-as-defined : LabelsClaim
 labels-as-defined g start marks area h o e cs ss K = rw (tie g start marks area o e cs ss K) (labelled g start marks area h cs)
+
+-- The calls of a script that is opened.
+abbrev played : Image → ℕ → (marks area script : List ℕ) → List Call
+played g start marks area script = cond (eqb (openNumber g start marks area) 0) (scripted (begun (opening g start marks area)) area script) []
+
+pub replay-labels : ReplayLabelsClaim
+replay-labels g start marks area h script = labelled g start marks area h (played g start marks area script)
 
 -- ---- the two lines
 -- The words of the first events are the first words.
@@ -99,4 +111,4 @@ two-lines g start marksA eventsA t marksA′ eventsA′ taken P marks area h o e
     (in-words g start vs (lineB folded g start marks area cs) (agreement g start marks area h vs E cs))
 
 pub replay-agrees : ReplayClaim
-replay-agrees g start marks area h script vs E = in-words g start vs (replayed g start marks area script) (agreement g start marks area h vs E (cond (eqb (openNumber g start marks area) 0) (scripted (begun (opening g start marks area)) area script) []))
+replay-agrees g start marks area h script vs E = in-words g start vs (replayed g start marks area script) (agreement g start marks area h vs E (played g start marks area script))

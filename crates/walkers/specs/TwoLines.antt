@@ -10,8 +10,9 @@ use lib.ListN.{length, take}
 use Rattle.lists.specs.Counts.{sumOf}
 use Rattle.lists.specs.Words.{cleared}
 use Rattle.graphs.specs.Graph.{Reached, met}
-use Rattle.graphs.specs.Events.{words}
-use Rattle.graphs.specs.Results.{marksLeft}
+use Rattle.graphs.specs.Events.{History, words}
+use Rattle.graphs.specs.Circles.{Circular, circularOf}
+use Rattle.graphs.specs.Results.{marksLeft, marksNow}
 use Rattle.graphs.specs.Image.{Image, graphOf}
 use Rattle.walks.specs.Promises.{walkNumber, depthWalk}
 use Rattle.folding.specs.Machine.{Config, finished, rolledBack}
@@ -74,15 +75,27 @@ TieClaim = (g : Image) (start : ℕ) (marks area : List ℕ) (o : Seen) → o �
     → account (opened o) cs ss ≡ accountOf (lineB folded g start marks area cs)
 
 -- ---- demand 2 of line B
--- Ended, the event words and the marks are those of the depth-first search (`WalkClaim` says whose); rolled back, all marks are 0.
+-- Ended, the event words and the marks are those of the depth-first search (`WalkClaim` says whose), and circular is 1 exactly where some
+-- element reached has a path of one reference or more back to itself; rolled back, all marks are 0. At any time, by the events whose words
+-- were written: circular is 1 where a reference was met that leads to an element labelled and not yet scanned, else 0; until B is rolled
+-- back, the marks are the label numbers, with 32,768 more for such elements.
 pub record Labels (g : Image) (start : ℕ) (marks : List ℕ) (b : Account) : Type 0 where
   pub events : b .config .phase ≡ finished → b .told ≡ words (reverse (depthWalk g start))
   pub labels : b .config .phase ≡ finished → b .config .marks ≡ marksLeft (g .n + g .m) (depthWalk g start) marks
   pub no-labels : b .config .phase ≡ rolledBack → b .config .marks ≡ cleared (g .n + g .m) marks
+  pub circle : b .config .phase ≡ finished → (b .config .circular ≡ 1) ↔ Circular (graphOf g) [] start
+  pub history : History
+  pub so-far : b .told ≡ words (reverse history)
+  pub circular : b .config .circular ≡ circularOf (graphOf g) history
+  pub marks-now : b .config .phase ≢ rolledBack → b .config .marks ≡ marksNow (g .n + g .m) history marks
 
 abbrev pub LabelsClaim : Type 0
 LabelsClaim = (g : Image) (start : ℕ) (marks area : List ℕ) → openNumber g start marks area ≡ 0 → (o : Seen) → o ≡ seenOf (opening g start marks area)
     → (cs : List Call) (ss : List Seen) → Kept (o .config) cs ss → Labels g start marks (account (opened o) cs ss)
+
+-- Of `replay`, whatever the words of the script.
+abbrev pub ReplayLabelsClaim : Type 0
+ReplayLabelsClaim = (g : Image) (start : ℕ) (marks area : List ℕ) → openNumber g start marks area ≡ 0 → (script : List ℕ) → Labels g start marks (accountOf (replayed g start marks area script))
 
 -- ---- the two lines
 -- Line B's account beside line A's event words; vs are the elements reached, in any order.

@@ -11,7 +11,7 @@ use borrow.Author.Tests.{leb-true, leb-false, lt-ltb, le-ltb, le-leb, lt-leb}
 use Rattle.lists.specs.Members.{memb, consIf}
 use Rattle.lists.specs.Counts.{rank}
 use Rattle.lists.specs.Words.{at, put, pasted, cleared, filled}
-use Rattle.lists.proofs.Tests.{and-true}
+use Rattle.lists.proofs.Tests.{and-true, and-none}
 use Rattle.lists.proofs.Words.{length-cleared, length-overlay, cleared-filled}
 use Rattle.graphs.specs.Graph.{Graph}
 use Rattle.graphs.specs.Events.{Kind, event, label, advance-tree, advance-nontree, code, words, same, History, _▸_, labelled, count, tally}
@@ -22,7 +22,7 @@ use Rattle.graphs.proofs.Results.{marks-label, marks-test, marks-length, named-
 use Rattle.walks.specs.declared.depth.Progress.{Progress}
 use Rattle.walks.specs.Writing.{noEvents, Held, Roomy}
 use Rattle.walks.specs.Progress.{noProgress, hasRoom, progressAfter, eventsAfter, canLabel, labelProgress, labelMarks, labelEvents, isWhole, depthTally, Written}
-use Rattle.walks.proofs.Storing.{three-stored, all-cleared, and-none}
+use Rattle.walks.proofs.Storing.{three-stored, all-cleared}
 use Rattle.walks.proofs.Events.{words-many, events-next}
 
 -- ---- what the functions store

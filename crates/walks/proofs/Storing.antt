@@ -9,7 +9,7 @@ use lib.ListN.{length, getD, set}
 use borrow.Author.Tests.{leb-true, leb-false, lt-ltb, le-ltb, le-leb, lt-leb}
 use Rattle.lists.specs.Words.{put, pasted, cleared}
 use Rattle.lists.proofs.Words.{pasted-none, pasted-next}
-use Rattle.lists.proofs.Tests.{both}
+use Rattle.lists.proofs.Tests.{and-none, both}
 use Rattle.walks.specs.Writing.{total, counted, hasRoom, tallyAfter, eventsAfter, canLabel, labelTally, labelMarks, labelEvents}
 
 -- One word more is cleared.
@@ -63,10 +63,6 @@ room-is k t a h =
     let y = both (leb k 7) (leb (total t) 10000 && leb (3 * total t + 3) a) (x .1) in
     let z = both (leb (total t) 10000) (leb (3 * total t + 3) a) (y .1) in
     record { low = leb-true 1 k (x .0); high = leb-true k 7 (y .0); few = leb-true (total t) 10000 (z .0); room = leb-true (3 * total t + 3) a (z .1) }
-
-pub and-none : (b : Bool) → (b && false) ≡ false
-and-none true = refl
-and-none false = refl
 
 -- The tests of room, one after the other.
 pub no-room-kind : (k : ℕ) (t : List ℕ) (a : ℕ) → 7 < k → false ≡ hasRoom k t a

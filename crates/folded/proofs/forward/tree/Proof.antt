@@ -40,13 +40,13 @@ same-length c = search needs
 returns-2 : tie.Need-returns-2
 returns-2 c = let a = c .before .before .before .before .before .before .before .before .before .before .args in let p = c .before .before .before .before .before .before .before .before .before .before .pre in c .unfit2 .ensures (a .after .now) (a .tail .now) (a .marks .now) (a .events .now) ∙ sym (tree-no-link (configOf (a .s) (a .after .now) (a .tail .now) (a .marks .now)) (a .made) (a .events .now) (a .x) (p .2) (p .3) (p .4) (c .before .before .before .before .before .if1 .left) (c .before .before .before .read-after .result) (c .before .before .before .read-after .ensures) (sym (c .before .before .is-link .ensures) ∙ not-true _ (c .before .if2 .taken)))
 
--- src/forward.rt:46:14
-sub-i : tie.Need-sub-i
-sub-i c = search needs
-
 -- src/forward.rt:46:13
 cast-i : tie.Need-cast-i
 cast-i c = search needs
+
+-- src/forward.rt:46:13
+sub-i : tie.Need-sub-i
+sub-i c = search needs
 
 -- src/forward.rt:47:5
 mul-after : tie.Need-mul-after
@@ -56,17 +56,21 @@ mul-after c = search needs
 slice-write-after : tie.Need-slice-write-after
 slice-write-after c = search needs
 
--- src/forward.rt:48:14
-sub-j : tie.Need-sub-j
-sub-j c = search needs
-
--- src/forward.rt:48:14
-sub-j-2 : tie.Need-sub-j-2
-sub-j-2 c = search needs
-
 -- src/forward.rt:48:13
 cast-j : tie.Need-cast-j
 cast-j c = search needs
+
+-- src/forward.rt:48:26
+cast-j-2 : tie.Need-cast-j-2
+cast-j-2 c = search needs
+
+-- src/forward.rt:48:13
+sub-j : tie.Need-sub-j
+sub-j c = search needs
+
+-- src/forward.rt:48:13
+sub-j-2 : tie.Need-sub-j-2
+sub-j-2 c = search needs
 
 -- src/forward.rt:49:5
 mul-tail : tie.Need-mul-tail
@@ -76,9 +80,13 @@ mul-tail c = search needs
 slice-write-tail : tie.Need-slice-write-tail
 slice-write-tail c = search needs
 
--- src/forward.rt:50:14
+-- src/forward.rt:50:13
 sub-k : tie.Need-sub-k
 sub-k c = search needs
+
+-- src/forward.rt:51:16
+add-marks : tie.Need-add-marks
+add-marks c = search needs
 
 -- src/forward.rt:51:5
 mul-marks : tie.Need-mul-marks
@@ -92,9 +100,13 @@ slice-write-marks c = search needs
 write-two-requires : tie.Need-write-two-requires
 write-two-requires c κs = search needs
 
--- src/forward.rt:61:15
+-- src/forward.rt:63:15
 add-t20 : tie.Need-add-t20
 add-t20 c = search needs
+
+-- src/forward.rt:68:15
+add-t26 : tie.Need-add-t26
+add-t26 c = search needs
 
 -- src/forward.rt:23:1
 same-length-2 : tie.Need-same-length-2
@@ -116,13 +128,36 @@ same-length-5 c = search needs
 returns-3 : tie.Need-returns-3
 returns-3 c = let a = c .before .before .before .before .before .before .before .before .before .before .before .before .before .before .args in let p = c .before .before .before .before .before .before .before .before .before .before .before .before .before .before .pre in tree-made (configOf (a .s) (a .after .now) (a .tail .now) (a .marks .now)) (a .made) (a .events .now) (a .x) (p .2) (p .3) (p .4) (c .before .before .before .before .before .before .before .before .before .if1 .left) (c .before .before .before .before .before .before .before .read-after .result) (c .before .before .before .before .before .before .before .read-after .ensures) (sym (c .before .before .before .before .before .before .is-link .ensures) ∙ not-false _ (c .before .before .before .before .before .if2 .left)) (c .before .before .before .write-two .ensures)
 
-cast-j-2 : tie.Need-cast-j-2
-cast-j-2 c = search needs
-
-add-t27 : tie.Need-add-t27
-add-t27 c = search needs
-
 pub tree-spec : {M : Type 1} → statement M
 tree-spec =
     tie.close
-    (tie.spec unfit-requires returns read-after-requires is-link-requires unfit-requires-2 same-length returns-2 cast-i sub-i mul-after slice-write-after cast-j cast-j-2 sub-j sub-j-2 mul-tail slice-write-tail sub-k mul-marks slice-write-marks write-two-requires add-t20 add-t27 same-length-2 same-length-3 same-length-4 same-length-5 returns-3)
+    (tie.spec
+    unfit-requires
+    returns
+    read-after-requires
+    is-link-requires
+    unfit-requires-2
+    same-length
+    returns-2
+    cast-i
+    sub-i
+    mul-after
+    slice-write-after
+    cast-j
+    cast-j-2
+    sub-j
+    sub-j-2
+    mul-tail
+    slice-write-tail
+    sub-k
+    add-marks
+    mul-marks
+    slice-write-marks
+    write-two-requires
+    add-t20
+    add-t26
+    same-length-2
+    same-length-3
+    same-length-4
+    same-length-5
+    returns-3)

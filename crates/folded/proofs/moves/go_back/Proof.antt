@@ -69,16 +69,16 @@ same-length-7 : tie.Need-same-length-7
 same-length-7 c = search needs
 
 -- src/moves.rt:41:9
+same-length-8 : tie.Need-same-length-8
+same-length-8 c = search needs
+
+-- src/moves.rt:41:9
 returns-4 : tie.Need-returns-4
-returns-4 c = let z = c .before .before .before .before .before .before .before .before .before .before .before .before .before .before .before .before .args in let w = configOf (z .s) (z .after .now) (z .tail .now) (z .marks .now) in coming w (z .made) (z .events .now) (picks-finish w (c .before .before .before .before .before .before .before .before .before .before .before .before .before .before .before .before .pre .1) (c .before .before .before .before .before .before .before .before .before .before .if1 .left) (c .before .before .before .before .before .before .before .before .if2 .left) (c .before .before .before .before .before .before .before .if4 .taken)) (c .before .before .before .before .finish .ensures (z .tail .now) (z .marks .now))
+returns-4 c = let z = c .before .before .before .before .before .before .before .before .before .before .before .before .before .before .before .before .before .before .before .args in let w = configOf (z .s) (z .after .now) (z .tail .now) (z .marks .now) in coming w (z .made) (z .events .now) (picks-finish w (c .before .before .before .before .before .before .before .before .before .before .before .before .before .before .before .before .before .before .before .pre .1) (c .before .before .before .before .before .before .before .before .before .before .before .before .before .if1 .left) (c .before .before .before .before .before .before .before .before .before .before .before .if2 .left) (c .before .before .before .before .before .before .before .before .before .before .if4 .taken)) (c .before .before .before .before .before .before .finish .ensures (z .tail .now))
 
 -- src/moves.rt:43:5
 retreat-requires : tie.Need-retreat-requires
-retreat-requires c κs = let p = c .before .before .before .before .before .before .before .before .before .before .before .before .pre in (but-marks (c .before .before .before .before .before .before .before .before .before .before .before .before .args .s) (p .0), omega (arith, c .before .before .before .if4 .left), c .before .before .before .before .before .before .if1 .left, p .2)
-
--- src/moves.rt:19:1
-same-length-8 : tie.Need-same-length-8
-same-length-8 c = search needs
+retreat-requires c κs = search needs
 
 -- src/moves.rt:19:1
 same-length-9 : tie.Need-same-length-9
@@ -89,8 +89,16 @@ same-length-10 : tie.Need-same-length-10
 same-length-10 c = search needs
 
 -- src/moves.rt:19:1
+same-length-11 : tie.Need-same-length-11
+same-length-11 c = search needs
+
+-- src/moves.rt:19:1
+same-length-12 : tie.Need-same-length-12
+same-length-12 c = search needs
+
+-- src/moves.rt:19:1
 returns-5 : tie.Need-returns-5
-returns-5 c = let z = c .before .before .before .before .before .before .before .before .before .before .before .before .before .before .before .before .before .before .before .args in let w = configOf (z .s) (z .after .now) (z .tail .now) (z .marks .now) in coming w (z .made) (z .events .now) (picks-retreat w (c .before .before .before .before .before .before .before .before .before .before .before .before .before .before .before .before .before .before .before .pre .1) (c .before .before .before .before .before .before .before .before .before .before .before .before .before .if1 .left) (c .before .before .before .before .before .before .before .before .before .before .before .if2 .left) (c .before .before .before .before .before .before .before .before .before .before .if4 .left)) (c .before .before .before .before .before .before .retreat .ensures (z .marks .now))
+returns-5 c = let z = c .before .before .before .before .before .before .before .before .before .before .before .before .before .before .before .before .before .before .before .before .before .before .args in let w = configOf (z .s) (z .after .now) (z .tail .now) (z .marks .now) in coming w (z .made) (z .events .now) (picks-retreat w (c .before .before .before .before .before .before .before .before .before .before .before .before .before .before .before .before .before .before .before .before .before .before .pre .1) (c .before .before .before .before .before .before .before .before .before .before .before .before .before .before .before .before .if1 .left) (c .before .before .before .before .before .before .before .before .before .before .before .before .before .before .if2 .left) (c .before .before .before .before .before .before .before .before .before .before .before .before .before .if4 .left)) (c .before .before .before .before .before .before .before .before .retreat .ensures)
 
 pub go-back-spec : {M : Type 1} → statement M
 go-back-spec =
@@ -110,9 +118,11 @@ go-back-spec =
     finish-requires
     same-length-6
     same-length-7
+    same-length-8
     returns-4
     retreat-requires
-    same-length-8
     same-length-9
     same-length-10
+    same-length-11
+    same-length-12
     returns-5)

@@ -2,7 +2,7 @@ use mathlib.Core.Path.{sym, ap, _∙_}
 use mathlib.Core.List.{[], _∷_}
 use Prim.Native.Nat.{_+_}
 use native.Mathlib.Omega.{arith}
-use Rattle.lists.specs.Words.{at}
+use Rattle.lists.specs.Words.{at, put}
 use Rattle.graphs.specs.Refusals.{lent}
 use Rattle.images.specs.Checking.{image}
 use Rattle.walks.proofs.Numbers.{more-lent, own-test}
@@ -18,8 +18,8 @@ use Rattle.states.proofs.opening.open.Lts as lts
 use Rattle.states.proofs.opening.is_long.Reads as is-long-reads
 use Rattle.states.proofs.opening.no_state.Reads as no-state-reads
 use Rattle.states.proofs.values.refused.Reads as refused-reads
+use Rattle.walks.proofs.depth.begin.Reads as begin-reads
 use Rattle.walks.proofs.search_number.Reads as search-number-reads
-use Rattle.walks.proofs.begin.Reads as begin-reads
 
 -- src/opening.rt:60:17
 add-nodes : tie.Need-add-nodes
@@ -50,21 +50,29 @@ returns c = let z = c .before .before .before .before .before .before .before .b
 begin-requires : tie.Need-begin-requires
 begin-requires c κs = search needs
 
--- src/opening.rt:67:14
-sub-i : tie.Need-sub-i
-sub-i c = let z = c .before .before .before .before .before .before .before .before .before .before .before .before .before .before .args in let O = opens (image (z .n) (z .m) (z .after .now) (z .tail .now)) (z .start .0) (z .marks .now) (z .events .now) (c .before .before .before .before .before .before .before .before .search-number .ensures (lent (z .n + z .m) (z .marks .now) ∷ lent 3 (z .events .now) ∷ []) (c .before .before .before .before .before .before .before .before .before .is-long .ensures ∙ more-lent (z .n + z .m) (z .marks .now) (lent 3 (z .events .now) ∷ []) _ (own-test 3 (z .events .now)))) (c .before .before .before .before .before .before .before .if1 .left) in let x = O .start-vertex in omega arith
-
 -- src/opening.rt:67:13
 cast-i : tie.Need-cast-i
 cast-i c = search needs
 
--- src/opening.rt:68:18
-mul-t16 : tie.Need-mul-t16
-mul-t16 c = search needs
+-- src/opening.rt:67:13
+sub-i : tie.Need-sub-i
+sub-i c = let z = c .before .before .before .before .before .before .before .before .before .before .before .before .before .before .args in let O = opens (image (z .n) (z .m) (z .after .now) (z .tail .now)) (z .start .0) (z .marks .now) (z .events .now) (c .before .before .before .before .before .before .before .before .search-number .ensures (lent (z .n + z .m) (z .marks .now) ∷ lent 3 (z .events .now) ∷ []) (c .before .before .before .before .before .before .before .before .before .is-long .ensures ∙ more-lent (z .n + z .m) (z .marks .now) (lent 3 (z .events .now) ∷ []) _ (own-test 3 (z .events .now)))) (c .before .before .before .before .before .before .before .if1 .left) in let x = O .start-vertex in omega arith
 
--- src/opening.rt:68:18
-shared-slice-read-t25 : tie.Need-shared-slice-read-t25
-shared-slice-read-t25 c = let z = c .before .before .before .before .before .before .before .before .before .before .before .before .before .before .before .args in let O = opens (image (z .n) (z .m) (z .after .now) (z .tail .now)) (z .start .0) (z .marks .now) (z .events .now) (c .before .before .before .before .before .before .before .before .before .search-number .ensures (lent (z .n + z .m) (z .marks .now) ∷ lent 3 (z .events .now) ∷ []) (c .before .before .before .before .before .before .before .before .before .before .is-long .ensures ∙ more-lent (z .n + z .m) (z .marks .now) (lent 3 (z .events .now) ∷ []) _ (own-test 3 (z .events .now)))) (c .before .before .before .before .before .before .before .before .if1 .left) in let x = O .start-vertex in omega (arith, O .long-after)
+-- src/opening.rt:68:5
+mul-marks : tie.Need-mul-marks
+mul-marks c = search needs
+
+-- src/opening.rt:68:5
+slice-write-marks : tie.Need-slice-write-marks
+slice-write-marks c = let z = c .before .before .before .before .before .before .before .before .before .before .before .before .before .before .args in let O = opens (image (z .n) (z .m) (z .after .now) (z .tail .now)) (z .start .0) (z .marks .now) (z .events .now) (c .before .before .before .before .before .before .before .before .search-number .ensures (lent (z .n + z .m) (z .marks .now) ∷ lent 3 (z .events .now) ∷ []) (c .before .before .before .before .before .before .before .before .before .is-long .ensures ∙ more-lent (z .n + z .m) (z .marks .now) (lent 3 (z .events .now) ∷ []) _ (own-test 3 (z .events .now)))) (c .before .before .before .before .before .before .before .if1 .left) in let x = O .start-vertex in omega (arith, O .long-marks)
+
+-- src/opening.rt:69:18
+mul-t15 : tie.Need-mul-t15
+mul-t15 c = search needs
+
+-- src/opening.rt:69:18
+shared-slice-read-t26 : tie.Need-shared-slice-read-t26
+shared-slice-read-t26 c = let z = c .before .before .before .before .before .before .before .before .before .before .before .before .before .before .before .args in let O = opens (image (z .n) (z .m) (z .after .now) (z .tail .now)) (z .start .0) (z .marks .now) (z .events .now) (c .before .before .before .before .before .before .before .before .before .search-number .ensures (lent (z .n + z .m) (z .marks .now) ∷ lent 3 (z .events .now) ∷ []) (c .before .before .before .before .before .before .before .before .before .before .is-long .ensures ∙ more-lent (z .n + z .m) (z .marks .now) (lent 3 (z .events .now) ∷ []) _ (own-test 3 (z .events .now)))) (c .before .before .before .before .before .before .before .before .if1 .left) in let x = O .start-vertex in omega (arith, O .long-after)
 
 -- src/opening.rt:48:1
 same-length : tie.Need-same-length
@@ -76,7 +84,7 @@ same-length-2 c = search needs
 
 -- src/opening.rt:48:1
 returns-2 : tie.Need-returns-2
-unfolding at
+unfolding at put
 returns-2 c = let z = c .before .before .before .before .before .before .before .before .before .before .before .before .before .before .before .args in let g = image (z .n) (z .m) (z .after .now) (z .tail .now) in let e = c .before .before .before .before .before .before .before .before .before .search-number .ensures (lent (z .n + z .m) (z .marks .now) ∷ lent 3 (z .events .now) ∷ []) (c .before .before .before .before .before .before .before .before .before .before .is-long .ensures ∙ more-lent (z .n + z .m) (z .marks .now) (lent 3 (z .events .now) ∷ []) _ (own-test 3 (z .events .now))) in
     let B = c .before .before .before .before .before .begin .ensures in
     let A = opened g (z .start .0) (z .marks .now) (z .events .now) e (c .before .before .before .before .before .before .before .before .if1 .left) (B .0, (B .1 .0, B .1 .1)) in
@@ -86,4 +94,20 @@ returns-2 c = let z = c .before .before .before .before .before .before .before 
 pub open-spec : {M : Type 1} → statement M
 open-spec =
     tie.close
-    (tie.spec add-nodes is-long-requires search-number-requires no-state-requires refused-requires returns begin-requires cast-i sub-i mul-t16 shared-slice-read-t25 same-length same-length-2 returns-2)
+    (tie.spec
+    add-nodes
+    is-long-requires
+    search-number-requires
+    no-state-requires
+    refused-requires
+    returns
+    begin-requires
+    cast-i
+    sub-i
+    mul-marks
+    slice-write-marks
+    mul-t15
+    shared-slice-read-t26
+    same-length
+    same-length-2
+    returns-2)

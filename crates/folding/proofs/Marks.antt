@@ -1,0 +1,65 @@
+-- Marks and circular of a step, on any words.
+-- By the step to come.
+use mathlib.Core.Path.{_≡_, refl, sym, ap, _∙_}
+use mathlib.Core.Logic.{_≢_}
+use mathlib.Core.Bool.{Bool, true, false, cond, _&&_, not}
+use Prim.Native.Nat.{ℕ}
+use lib.Dec.{eqb, ltb, leb}
+use borrow.Author.Tests.{eqb-true, le-leb, lt-leb}
+use Rattle.lists.specs.Words.{at}
+use Rattle.folding.specs.Machine.{Config, walking, rollingBack, rolledBack, target, forward, fresh, Step, tree, nontree, relink, retreat, finish, undo-tree, undo-open, pickStep, stepOf, enact, step}
+use Rattle.folding.specs.Claims.{marksBy, MarksClaim}
+
+-- Every step but the last of a roll-back changes marks by its events alone.
+by-events : (w : Config) (s : Step) → enact w s .config .phase ≢ rolledBack → enact w s .config .marks ≡ marksBy (w .next) (enact w s .events) (w .marks)
+unfolding enact
+by-events w tree n = refl
+by-events w nontree n = refl
+by-events w relink n = refl
+by-events w retreat n = refl
+by-events w finish n = refl
+by-events w undo-tree n = refl
+by-events w undo-open n = absurd (n refl)
+
+-- The step to come, by what it is picked by.
+picked : (w : Config) {a b c : Bool} → forward w ≡ a → fresh w ≡ b → eqb (w .phase) rollingBack ≡ c → stepOf w ≡ pickStep a b (ltb (w .n) (w .f)) (eqb (w .f) 0) c
+unfolding stepOf
+picked w p q r = λ i. pickStep (p i) (q i) (ltb (w .n) (w .f)) (eqb (w .f) 0) (r i)
+
+-- A step of a roll-back has no event.
+rolled : (w : Config) (b c d : Bool) → enact w (pickStep false b c d true) .config .phase ≢ rolledBack → enact w (pickStep false b c d true) .config .marks ≡ w .marks
+unfolding enact
+rolled w b true d n = refl
+rolled w b false true n = absurd (n refl)
+rolled w b false false n = refl
+
+rolling-step : (w : Config) → w .phase ≡ rollingBack → stepOf w ≡ pickStep false (fresh w) (ltb (w .n) (w .f)) (eqb (w .f) 0) true
+rolling-step w p = picked w (ap (λ (k : ℕ). eqb k walking && not (eqb (w .e) 0)) p) refl (ap (λ (k : ℕ). eqb k rollingBack) p)
+
+-- ---- circular
+-- A step back leaves the figure.
+kept : (w : Config) (b c d r : Bool) → enact w (pickStep false b c d r) .config .circular ≡ w .circular
+unfolding enact
+kept w b true d r = refl
+kept w b false true true = refl
+kept w b false true false = refl
+kept w b false false true = refl
+kept w b false false false = refl
+
+-- A step forward asks the mark of t(e).
+asked : (w : Config) (b : Bool) → stepOf w ≡ pickStep true b (ltb (w .n) (w .f)) (eqb (w .f) 0) (eqb (w .phase) rollingBack) → (b ≡ true → at 0 (w .marks) (target w (w .e)) ≡ 0) → step w .config .circular ≡ cond (leb 32768 (at 0 (w .marks) (target w (w .e)))) 1 (w .circular)
+unfolding enact
+asked w true e z = ap (λ (s : Step). enact w s .config .circular) e ∙ ap (λ (k : ℕ). cond (leb 32768 k) 1 (w .circular)) (sym (z refl))
+asked w false e z = ap (λ (s : Step). enact w s .config .circular) e
+
+met : (w : Config) → forward w ≡ true → step w .config .circular ≡ cond (leb 32768 (at 0 (w .marks) (target w (w .e)))) 1 (w .circular)
+met w f = asked w (fresh w) (picked w f refl refl) (eqb-true (at 0 (w .marks) (target w (w .e))) 0)
+
+pub marks-claim : MarksClaim
+marks-claim = record {
+  marks = λ w n. by-events w (stepOf w) n;
+  rolling = λ w p n. rw (rolling-step w p) (rolled w (fresh w) (ltb (w .n) (w .f)) (eqb (w .f) 0) (rw (rolling-step w p) at n));
+  meets = λ w f h. met w f ∙ ap (λ (b : Bool). cond b 1 (w .circular)) (le-leb 32768 (at 0 (w .marks) (target w (w .e))) h);
+  passes = λ w f h. met w f ∙ ap (λ (b : Bool). cond b 1 (w .circular)) (lt-leb 32768 (at 0 (w .marks) (target w (w .e))) h);
+  back = λ w f. ap (λ (s : Step). enact w s .config .circular) (picked w f refl refl) ∙ kept w (fresh w) (ltb (w .n) (w .f)) (eqb (w .f) 0) (eqb (w .phase) rollingBack);
+}
