@@ -72,7 +72,9 @@ enum {
     PROFILE_WALKER_STATE_F = 5,        /* the trailer */
     PROFILE_WALKER_STATE_PHASE = 6,
     PROFILE_WALKER_STATE_NEXT = 7,     /* the next label number */
-    PROFILE_WALKER_STATE_CIRCULAR = 8  /* 1 where a nontree reference was met, else 0 */
+    /* 1 where a reference was met that leads to an element labelled and not yet scanned, else 0; once the walk has
+     * ended, 1 exactly if some element reached has a path of one reference or more back to itself: */
+    PROFILE_WALKER_STATE_CIRCULAR = 8
 };
 
 /* Phases. */
@@ -213,11 +215,15 @@ uint16_t profile_walker_bfs_folded(uint16_t n, uint16_t m, uint16_t start,
  *
  * A state is nine words (see above). From the opening to phase 3 or 5 the links are bent, and nobody else writes
  * links, marks or state.
+ *
+ * Marks. An element that is labelled gets its label number plus 32,768; its scan leaves the remainder by 32,768, the
+ * number alone. So a mark of 32,768 or more is of an element not yet scanned, and in phase 3 the marks are those of a
+ * whole walk. Winding back leaves marks alone before its last move, which clears the n marks of elements.
  */
 
 /*
- * Opens a walk: checks the image, clears the n+m marks, labels the start, writes one event (3 words) and the state
- * (9 words). n+m after words, m tail words.
+ * Opens a walk: checks the image, clears the n+m marks, labels the start (mark 32,769), writes one event (3 words) and
+ * the state (9 words). n+m after words, m tail words.
  * 1, 2, 3 (all areas, the state's too), 4, 5, 6, 7.
  */
 uint16_t profile_walker_open(uint16_t n, uint16_t m, uint16_t start,
@@ -252,7 +258,8 @@ uint16_t profile_walker_run(uint16_t *state, size_t state_words, uint32_t budget
                             uint32_t *steps, size_t *made, uint16_t *reason);
 
 /*
- * Orders the walk to be wound back: phase 4, from which further moves lead to phase 5. It is lent no links.
+ * Orders the walk to be wound back: phase 4, from which further moves lead to phase 5. It is lent no links and no
+ * marks.
  * 3 where the state has fewer than 9 words; then 1, 2, 4, 8, 9.
  */
 uint16_t profile_walker_roll_back(uint16_t *state, size_t state_words);

@@ -15,6 +15,7 @@ struct Areas {
     own: Vec<u16>,
     events: Vec<u16>,
     tally: [u32; 7],
+    circular: u16,
 }
 
 struct Links {
@@ -40,6 +41,7 @@ impl Areas {
             own: vec![0; n],
             events: vec![0; (6 * (n + m)).max(3 + 6 * (2 * m + n))],
             tally: [0; 7],
+            circular: 0,
         }
     }
 
@@ -49,7 +51,7 @@ impl Areas {
     }
 
     /// All that a call may have written.
-    fn left(&self) -> ([&[u16]; 6], &[u32; 7]) {
+    fn left(&self) -> ([&[u16]; 6], &[u32; 7], u16) {
         let links = &self.links[self.at];
         let words = [
             &links.after,
@@ -59,7 +61,7 @@ impl Areas {
             &self.own,
             &self.events,
         ];
-        (words.map(Vec::as_slice), &self.tally)
+        (words.map(Vec::as_slice), &self.tally, self.circular)
     }
 }
 
@@ -252,6 +254,7 @@ fn open_and_run(n: u16, m: u16, a: &mut Areas) {
     let (after, tail) = (&mut l.after, &mut l.tail);
     let ran = proved::run(&mut state, budget, after, tail, marks, &mut events[3..]).unwrap();
     assert_eq!((ran.steps, ran.reason), (budget, proved::Reason::Ended));
+    a.circular = state.circular();
 }
 
 fn same_open_and_run(n: u16, m: u16, a: &mut Areas) {
@@ -264,6 +267,7 @@ fn same_open_and_run(n: u16, m: u16, a: &mut Areas) {
     let (after, tail) = (&mut l.after, &mut l.tail);
     let ran = same::run(&mut state, budget, after, tail, marks, &mut events[3..]);
     assert!(matches!(ran, Ok((steps, _, 1)) if steps == budget));
+    a.circular = state.circular();
 }
 
 /// The checker of images.

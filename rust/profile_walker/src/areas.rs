@@ -306,7 +306,8 @@ pub fn bfs_folded(
     })
 }
 
-/// Opens a folded walk: checks the image, clears the marks, labels the start, writes one event and the state.
+/// Opens a folded walk: checks the image, clears the marks, labels the start (mark 32,769), writes one event and the
+/// state.
 ///
 /// Areas: n+m after words, m tail words, n+m marks, 3 event words, 9 state words. Numbers: 1, 2, 3, 4, 5, 6, 7.
 #[allow(clippy::too_many_arguments)]
@@ -341,6 +342,9 @@ pub fn open(
 }
 
 /// Makes one move, and sets `steps` to 1, `made` to the number of events written and `reason` to 0.
+///
+/// An element that is labelled is marked with its label number plus 32,768; its scan leaves the remainder by 32,768,
+/// the number alone. Winding back leaves marks alone before its last move, which clears the n marks of elements.
 ///
 /// Areas, by the state's n and m: 9 state words, n+m after words, m tail words, n+m marks, 6 event words.
 /// Numbers: 3 where the state has fewer than 9 words; then 1, 2, 3, 4, 8, 9.

@@ -1,6 +1,7 @@
 //! The folded depth-first walk, move by move.
 //!
 //! From the opening to phase 3 or 5 the links are bent, and nobody else writes links, marks or state.
+//! A mark of 32,768 or more is of an element not yet scanned; in phase 3 the marks are those of a whole walk.
 
 use crate::areas;
 use crate::refusal::Refusal;
@@ -59,7 +60,8 @@ pub struct Ran {
     pub reason: Reason,
 }
 
-/// Opens a walk: checks the image, clears the marks, labels the start, writes one event and gives the state.
+/// Opens a walk: checks the image, clears the marks, labels the start (mark 32,769), writes one event and gives the
+/// state.
 ///
 /// Areas: n+m after words, m tail words, n+m marks, 3 event words. Numbers: 1, 2, 3, 4, 5, 6, 7.
 pub fn open(
@@ -77,6 +79,9 @@ pub fn open(
 }
 
 /// Makes one move.
+///
+/// An element that is labelled is marked with its label number plus 32,768; its scan leaves the remainder by 32,768,
+/// the number alone. Winding back leaves marks alone before its last move, which clears the n marks of elements.
 ///
 /// Areas, by the state's n and m: n+m after words, m tail words, n+m marks, 6 event words.
 /// Numbers: 1, 2, 3, 4, 8, 9.

@@ -79,7 +79,8 @@ impl State {
         self.0[7]
     }
 
-    /// 1 where a nontree reference was met, else 0.
+    /// 1 where a reference was met that leads to an element labelled and not yet scanned, else 0. Once the walk has
+    /// ended it is 1 exactly if some element reached has a path of one reference or more back to itself.
     pub const fn circular(&self) -> u16 {
         self.0[8]
     }

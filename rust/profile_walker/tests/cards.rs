@@ -45,7 +45,7 @@ fn opened() -> (State, [u16; 7], [u16; 4], [u16; 7]) {
     let state = open(3, 4, 1, &AFTER, &TAIL, &mut marks, &mut events).expect("a sound profile");
     assert_eq!(events, [1, 0, 1]);
     assert_eq!(*state.words(), [3, 4, 1, 1, 4, 0, 1, 2, 0]);
-    assert_eq!(marks, [1, 0, 0, 0, 0, 0, 0]);
+    assert_eq!(marks, [32_769, 0, 0, 0, 0, 0, 0]);
     (state, AFTER, TAIL, marks)
 }
 

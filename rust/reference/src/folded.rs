@@ -10,6 +10,10 @@ pub const ENDED: u16 = 1;
 pub const SPENT: u16 = 2;
 pub const STUCK: u16 = 3;
 
+/// What labelling adds to an element's number, and its scan takes away: a mark as large as this is of an element not
+/// yet scanned.
+const NOT_YET_SCANNED: u16 = 32_768;
+
 /// The words of a state by name.
 #[derive(Clone, Copy, Debug, PartialEq, Eq)]
 pub struct Fields {
@@ -229,7 +233,7 @@ impl Config {
                 *self.t(e) = f;
                 self.fields.f = v;
                 self.fields.v = child;
-                *self.mark(child) = self.fields.next;
+                *self.mark(child) = NOT_YET_SCANNED + self.fields.next;
                 self.fields.next += 1;
                 let first = *self.a(child);
                 self.take_into_e(first)?;
@@ -237,7 +241,10 @@ impl Config {
             }
             Move::Nontree => {
                 self.pass(e, f)?;
-                self.fields.circular = 1;
+                let to = *self.t(e);
+                if *self.mark(to) >= NOT_YET_SCANNED {
+                    self.fields.circular = 1;
+                }
                 Ok(vec![[3, e, v], [4, e, v]])
             }
             Move::Turn => {
@@ -252,6 +259,7 @@ impl Config {
             }
             Move::LastClose => {
                 self.close_start(v, e)?;
+                self.scan(v);
                 self.fields.phase = 3;
                 Ok(vec![[6, 0, v]])
             }
@@ -265,6 +273,7 @@ impl Config {
                 let tree = self.close_child(v, e, f)?;
                 let trailer = self.fields.f;
                 self.pass(tree, trailer)?;
+                self.scan(v);
                 self.fields.phase = 1;
                 Ok(vec![[6, 0, v], [5, tree, f]])
             }
@@ -273,6 +282,11 @@ impl Config {
                 Ok(vec![])
             }
         }
+    }
+
+    /// The mark of an element becomes its remainder.
+    fn scan(&mut self, element: u16) {
+        *self.mark(element) %= NOT_YET_SCANNED;
     }
 
     /// e, f, a(e) become a(e), e, f.
@@ -346,7 +360,7 @@ pub fn open(
         refuse(4, !sizes.element(start))?;
         let profile = lists(sizes, after, tail)?;
         marks[..sizes.nodes()].fill(0);
-        marks[usize::from(start) - 1] = 1;
+        marks[usize::from(start) - 1] = NOT_YET_SCANNED + 1;
         events[..3].copy_from_slice(&[1, 0, start]);
         let first = profile.list(start).first();
         let fields = Fields {

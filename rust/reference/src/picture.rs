@@ -1,5 +1,5 @@
-//! The folded walk of a sound profile as a path of elements, and what the bent links look like for such a path. No word
-//! is bent here: each picture is drawn anew from the lists as loaded.
+//! The folded walk of a sound profile as a path of elements, and what the bent links and the marks look like for such
+//! a path. No word is bent here: each picture is drawn anew from the lists as loaded.
 
 use crate::image::{Profile, Reference};
 use crate::search::Event;
@@ -21,6 +21,8 @@ pub struct Walk<'a> {
     start: u16,
     path: Vec<OnPath>,
     labels: Vec<u16>,
+    /// The elements scanned, in order. Those that a winding leaves are not among them.
+    scanned: Vec<u16>,
     next: u16,
     circular: bool,
     phase: u16,
@@ -43,6 +45,7 @@ impl<'a> Walk<'a> {
             start,
             path: Vec::new(),
             labels: vec![0; profile.n + 1],
+            scanned: Vec::new(),
             next: 1,
             circular: false,
             phase: 1,
@@ -59,6 +62,11 @@ impl<'a> Walk<'a> {
             behind: 0,
             tree: None,
         });
+    }
+
+    /// Whether an element is on the path: before a winding order these are the elements labelled and not yet scanned.
+    fn on_path(&self, element: u16) -> bool {
+        self.path.iter().any(|on_path| on_path.element == element)
     }
 
     /// Phase 3 or 5.
@@ -93,7 +101,7 @@ impl<'a> Walk<'a> {
                 return vec![[2, number, v], [1, 0, to]];
             }
             top.behind += 1;
-            self.circular = true;
+            self.circular |= self.on_path(to);
             return vec![[3, number, v], [4, number, v]];
         }
         if top.behind > 0 {
@@ -105,6 +113,9 @@ impl<'a> Walk<'a> {
         }
         self.path.pop();
         let winding = self.phase == 4;
+        if !winding {
+            self.scanned.push(v);
+        }
         match self.path.last_mut() {
             None if winding => {
                 self.labels.fill(0);
@@ -124,6 +135,20 @@ impl<'a> Walk<'a> {
                 vec![[6, 0, v], [5, tree, u]]
             }
         }
+    }
+
+    /// The n+m marks: the number of each element labelled, with 32,768 on top until it is scanned.
+    fn marks(&self) -> Vec<u16> {
+        let mut marks = vec![0; self.profile.n + self.profile.m];
+        for (mark, &label) in marks.iter_mut().zip(&self.labels[1..]) {
+            if label != 0 {
+                *mark = 32_768 + label;
+            }
+        }
+        for &element in &self.scanned {
+            marks[usize::from(element) - 1] = self.labels[usize::from(element)];
+        }
+        marks
     }
 
     /// The words of the state, links and marks as they stand now.
@@ -161,8 +186,6 @@ impl<'a> Walk<'a> {
             0 => parent,
             _ => list[behind - 1].number,
         };
-        let mut marks = self.labels[1..].to_vec();
-        marks.resize(n + m, 0);
         Words {
             state: [
                 n as u16,
@@ -177,7 +200,7 @@ impl<'a> Walk<'a> {
             ],
             after,
             tail,
-            marks,
+            marks: self.marks(),
         }
     }
 }

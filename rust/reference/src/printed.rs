@@ -1,11 +1,13 @@
 //! What the program prints.
 
+use crate::reach::Reach;
 use crate::search::depth_first;
 use crate::text::profile;
 
 /// Prints the folded walk of a text's profile, which gives the events of the depth-first search, in twice as many
-/// moves as references met and one for each element reached. The lent links are then those of the text, the marks
-/// those of the search, and the event area holds the events.
+/// moves as references met and one for each element reached; it is circular where an element reached has a path back
+/// to itself. The lent links are then those of the text, the marks those of the search, and the event area holds the
+/// events.
 pub fn walk_text(
     text: &[u8],
     after: &mut [u16],
@@ -34,17 +36,15 @@ pub fn walk_text(
     };
 
     let search = depth_first(&profile, start);
-    let reached = search.order.len();
-    let lists = search.order.iter().map(|&element| profile.list(element));
-    let met: usize = lists.map(|list| list.len()).sum();
-    let circular = u16::from(met >= reached);
+    let reach = Reach::from(&profile, start);
+    let circular = u16::from(reach.circular(&profile));
 
     let mut lines = String::from("event,reference,element\n");
     for [kind, reference, element] in &search.events {
         lines += &format!("{kind},{reference},{element}\n");
     }
     lines += "elements,moves,circular\n";
-    lines += &format!("{},{},{}\n", reached, 2 * met + reached, circular);
+    lines += &format!("{},{},{}\n", reach.reached, reach.moves(), circular);
     *printed = put(output, &lines);
 
     let (after_words, tail_words) = profile.image();

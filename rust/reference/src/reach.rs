@@ -1,4 +1,4 @@
-//! The elements reached and the references met, by paths and not by a search.
+//! The elements reached, the references met and the circles among them, by paths and not by a search.
 
 use crate::image::Profile;
 
@@ -41,6 +41,32 @@ impl Reach {
     /// Whether an element is reached.
     pub fn contains(&self, element: u16) -> bool {
         self.within[usize::from(element)]
+    }
+
+    /// Whether some element reached has a path of one reference or more back to itself. Elements to which no element
+    /// left refers are taken away until there is none of them; on a path back to itself every element is referred to,
+    /// and where no such path is, the first element of a longest path among those left is referred to by none.
+    pub fn circular(&self, profile: &Profile) -> bool {
+        let mut referrers = vec![0_usize; profile.n + 1];
+        let reached = (1..=profile.n as u16).filter(|&element| self.contains(element));
+        for reference in reached.clone().flat_map(|element| profile.list(element)) {
+            referrers[usize::from(reference.to)] += 1;
+        }
+        let mut left = self.reached;
+        let mut to_take: Vec<u16> = reached
+            .filter(|&element| referrers[usize::from(element)] == 0)
+            .collect();
+        while let Some(element) = to_take.pop() {
+            left -= 1;
+            for reference in profile.list(element) {
+                let count = &mut referrers[usize::from(reference.to)];
+                *count -= 1;
+                if *count == 0 {
+                    to_take.push(reference.to);
+                }
+            }
+        }
+        left > 0
     }
 
     /// The moves of a whole folded walk.

@@ -45,6 +45,21 @@ impl<'a> Line<'a> {
         self.state[6]
     }
 
+    /// The element being scanned.
+    pub fn v(&self) -> Option<u16> {
+        Some(self.state[3])
+    }
+
+    /// The element that the reference next to traverse leads to, where there is one.
+    pub fn led_to(&self) -> Option<u16> {
+        let reference = usize::from(self.state[4]).checked_sub(usize::from(self.profile.n) + 1)?;
+        self.tail.get(reference).copied()
+    }
+
+    pub fn links_as_loaded(&self) -> bool {
+        self.after == self.profile.after && self.tail == self.profile.tail
+    }
+
     fn write_links(&mut self) {
         for (name, words) in [
             ("after", &self.after),

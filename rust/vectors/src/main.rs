@@ -39,6 +39,7 @@ fn answers(profile: &Profile) -> Vec<(&'static str, String)> {
             ("scripts/wound_back", scripts::wound_back(profile)),
             ("scripts/turned_back", scripts::turned_back(profile)),
             ("scripts/out_of_kind", scripts::out_of_kind(profile)),
+            ("scripts/marks", scripts::marks(profile)),
         ]);
     }
     answers

@@ -37,10 +37,7 @@ pub fn wound_back(profile: &Profile) -> String {
         if line.phase() == 3 {
             break;
         }
-        line.roll_back();
-        while line.phase() != 5 {
-            line.step(6);
-        }
+        wind_back(&mut line);
     }
     line.accept();
     line.into_text()
@@ -114,6 +111,61 @@ pub fn out_of_kind(profile: &Profile) -> String {
         line.run(profile.most_moves(), words(profile.most_moves()));
     }
     line.into_text()
+}
+
+/// Marks that no walk leaves, around those of elements not yet scanned: set on the element that the next reference
+/// leads to, or on the one being scanned, after an opening and after one and two moves; before a winding order also on
+/// the last node, which most often is a reference.
+pub fn marks(profile: &Profile) -> String {
+    let mut line = Line::new(profile);
+    for moves in 0..=2 {
+        for mark in [32_767, 32_768, 65_535] {
+            for place in [Line::led_to, Line::v] {
+                open_with_mark(&mut line, moves, place, mark);
+                go_on(&mut line, profile);
+            }
+            open_with_mark(&mut line, moves, Line::v, mark);
+            line.set("marks", profile.after.len(), mark);
+            if line.phase() != 3 {
+                wind_back(&mut line);
+            }
+        }
+    }
+    line.into_text()
+}
+
+/// An opening, moves, and then a mark set on an element, where there is one.
+fn open_with_mark<'a>(
+    line: &mut Line<'a>,
+    moves: u32,
+    place: fn(&Line<'a>) -> Option<u16>,
+    mark: u16,
+) {
+    assert!(line.links_as_loaded());
+    line.open(3);
+    line.run(moves, words(moves));
+    if let Some(element) = place(line) {
+        line.set("marks", usize::from(element), mark);
+    }
+}
+
+/// Three moves and a run; wound back where the marks have kept the walk from its end.
+fn go_on(line: &mut Line, profile: &Profile) {
+    for _ in 0..3 {
+        line.step(6);
+    }
+    line.run(profile.most_moves(), words(profile.most_moves()));
+    if line.phase() != 3 {
+        wind_back(line);
+    }
+}
+
+/// A winding order, and moves to its end.
+fn wind_back(line: &mut Line) {
+    line.roll_back();
+    while line.phase() != 5 {
+        line.step(6);
+    }
 }
 
 /// The panel at its limit, and over shifts.

@@ -95,6 +95,14 @@ impl Output {
     }
 }
 
+/// What the search has done with an element.
+#[derive(Clone, Copy, PartialEq)]
+enum Seen {
+    Never,
+    Labelled,
+    Scanned,
+}
+
 fn print(listing: &Listing) -> Vec<u8> {
     let (n, m) = (usize::from(listing.n), listing.lines.len());
     let mut firsts = vec![0; n + 2];
@@ -113,20 +121,22 @@ fn print(listing: &Listing) -> Vec<u8> {
     }
     let mut output = Output(Vec::with_capacity(36 * (n + m) + 66));
     output.0.extend_from_slice(b"event,reference,element\n");
-    let mut labelled = vec![false; n + 1];
+    let mut seen = vec![Seen::Never; n + 1];
     let mut stack: Vec<(u16, u16, usize)> = Vec::with_capacity(n);
     let (mut elements, mut met, mut circular) = (1, 0, 0);
     let (mut v, mut entered) = (listing.start, 0);
     let mut at = firsts[usize::from(v)];
-    labelled[usize::from(v)] = true;
+    seen[usize::from(v)] = Seen::Labelled;
     output.row(1, 0, v);
     loop {
         while at < firsts[usize::from(v) + 1] {
             let (edge, x) = edges[at];
             at += 1;
             met += 1;
-            if labelled[usize::from(x)] {
-                circular = 1;
+            if seen[usize::from(x)] != Seen::Never {
+                if seen[usize::from(x)] == Seen::Labelled {
+                    circular = 1;
+                }
                 output.row(3, edge, v);
                 output.row(4, edge, v);
             } else {
@@ -135,11 +145,12 @@ fn print(listing: &Listing) -> Vec<u8> {
                 v = x;
                 entered = edge;
                 at = firsts[usize::from(v)];
-                labelled[usize::from(v)] = true;
+                seen[usize::from(v)] = Seen::Labelled;
                 elements += 1;
                 output.row(1, 0, v);
             }
         }
+        seen[usize::from(v)] = Seen::Scanned;
         output.row(6, 0, v);
         let Some((u, above, place)) = stack.pop() else {
             break;

@@ -16,6 +16,10 @@ pub struct State {
 }
 
 impl State {
+    pub fn circular(&self) -> u16 {
+        self.circular
+    }
+
     fn is_node(&self, x: u16) -> bool {
         usize::from(x) <= usize::from(self.n) + usize::from(self.m)
     }
@@ -54,7 +58,7 @@ pub fn open(
         return Err(number);
     }
     marks[..nodes].fill(0);
-    marks[usize::from(start) - 1] = 1;
+    marks[usize::from(start) - 1] = 32769;
     events[..3].copy_from_slice(&[1, 0, start]);
     Ok(State {
         n,
@@ -103,7 +107,8 @@ impl Run<'_> {
         if !is_vertex(self.s.n, x) {
             return false;
         }
-        if self.marks[usize::from(x) - 1] != 0 {
+        let mark = self.marks[usize::from(x) - 1];
+        if mark != 0 {
             let next = self.after[usize::from(e) - 1];
             if !self.s.is_link(next) {
                 return false;
@@ -113,7 +118,9 @@ impl Run<'_> {
             self.emit(4, e, v);
             self.s.e = next;
             self.s.f = e;
-            self.s.circular = 1;
+            if mark >= 32768 {
+                self.s.circular = 1;
+            }
             return true;
         }
         let first = if x == v {
@@ -126,7 +133,7 @@ impl Run<'_> {
         }
         self.after[usize::from(v) - 1] = e;
         self.tail[self.s.tail_of(e)] = self.s.f;
-        self.marks[usize::from(x) - 1] = self.s.next;
+        self.marks[usize::from(x) - 1] = self.s.next + 32768;
         self.emit(2, e, v);
         self.emit(1, 0, x);
         self.s.next += 1;
@@ -161,6 +168,7 @@ impl Run<'_> {
             self.marks[..usize::from(self.s.n)].fill(0);
             self.s.phase = 5;
         } else {
+            self.marks[usize::from(v) - 1] %= 32768;
             self.emit(6, 0, v);
             self.s.phase = 3;
         }
@@ -196,6 +204,7 @@ impl Run<'_> {
         self.after[usize::from(v) - 1] = self.s.e;
         self.tail[self.s.tail_of(r)] = v;
         self.after[usize::from(r) - 1] = trailer;
+        self.marks[usize::from(v) - 1] %= 32768;
         self.emit(6, 0, v);
         self.emit(5, r, f);
         self.s.v = f;

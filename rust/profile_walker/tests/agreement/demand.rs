@@ -11,7 +11,10 @@ use crate::table::Table;
 /// What line A gives for a profile, and what is reached and met from its start.
 pub struct LineA {
     events: Vec<u16>,
+    marks: Vec<u16>,
     pub reach: Reach,
+    /// 1 where some element reached has a path back to itself.
+    circular: u16,
 }
 
 impl LineA {
@@ -31,9 +34,12 @@ impl LineA {
         let (number, left) = whole(table, Walker::Recursive, &lent);
         assert_eq!(number, 0);
         let count: u32 = left.tally.iter().sum();
+        let reach = Reach::from(&sound.profile, sound.start);
         LineA {
             events: left.events[..3 * count as usize].to_vec(),
-            reach: Reach::from(&sound.profile, sound.start),
+            marks: left.marks.to_vec(),
+            circular: u16::from(reach.circular(&sound.profile)),
+            reach,
         }
     }
 }
@@ -174,6 +180,14 @@ impl<'a> LineB<'a> {
         self.emitted += words;
     }
 
+    /// A walk that has ended gave all events of line A, has its marks, and says whether there is a circle.
+    fn check_ended(&self) {
+        let LineB { lent, line_a, .. } = self;
+        assert_eq!(self.emitted, line_a.events.len());
+        assert!(lent.marks.starts_with(&line_a.marks), "{lent:?}");
+        assert_eq!(lent.state[8], line_a.circular, "{lent:?}");
+    }
+
     /// Demand 3, as it stands after any list of calls.
     fn check(&self) {
         let LineB { sound, lent, .. } = self;
@@ -184,7 +198,7 @@ impl<'a> LineB<'a> {
                 assert_eq!(phase == 3, self.moves == reach.moves(), "{lent:?}");
                 assert_eq!(phase == 3, self.at_rest());
                 if phase == 3 {
-                    assert_eq!(self.emitted, self.line_a.events.len());
+                    self.check_ended();
                 }
             }
             Some(since) => {

@@ -1,7 +1,7 @@
 //! step, run and roll_back on any words: states out of kind, links and marks of noise, walks with a word changed under
 //! way, areas of any length.
 
-use reference::{move_to_come, ToCome};
+use reference::{move_to_come, Move, ToCome};
 
 use crate::lent::{open, roll_back, run, step, Folded, Opening};
 use crate::profiles::{area, fits, lengths, small, Fit, Sound};
@@ -12,6 +12,8 @@ const STEP_MADE: &str = "step, move made";
 const STEP_FAULT: &str = "step, out of kind";
 const RUN_FAULT: &str = "run, stuck at";
 const ALIAS: &str = "step, words met twice";
+const LED_TO: &str = "nontree move made, mark of t(e)";
+const CLOSED: &str = "close made, mark of v";
 
 pub fn compare(table: &mut Table) {
     let mut rng = Rng::new(6);
@@ -21,6 +23,10 @@ pub fn compare(table: &mut Table) {
     }
     for _ in 0..80_000 {
         let lent = aliased(&mut rng);
+        calls(table, &mut rng, &lent);
+    }
+    for _ in 0..80_000 {
+        let lent = marked(&mut rng);
         calls(table, &mut rng, &lent);
     }
     for _ in 0..60_000 {
@@ -90,6 +96,40 @@ fn assert_all_met(table: &Table) {
     ];
     table.assert_met(ALIAS, &twice);
     table.assert_met("run, reason", &["ended", "spent", "stuck"]);
+    assert_all_marks_met(table);
+}
+
+/// Nontree moves and closes were made on marks at, below and above every limit; nontree moves with either figure.
+fn assert_all_marks_met(table: &Table) {
+    let labelled = [1, 32_767, 32_768, 32_769, 65_535].map(limit);
+    for mark in labelled {
+        for circular in [0, 1] {
+            table.assert_met(LED_TO, &[&format!("{mark}, circular {circular}")]);
+        }
+    }
+    let closes = [
+        Move::Close,
+        Move::LastClose,
+        Move::WindingClose,
+        Move::LastWindingClose,
+    ];
+    for which in closes {
+        for mark in labelled.into_iter().chain([limit(0)]) {
+            table.assert_met(CLOSED, &[&format!("{which:?}, {mark}")]);
+        }
+    }
+}
+
+/// Where a mark lies, seen from the limits.
+fn limit(mark: u16) -> &'static str {
+    match mark {
+        0 => "0",
+        1..=32_766 => "below 32,767",
+        32_767 => "32,767",
+        32_768 => "32,768",
+        32_769..=65_534 => "above 32,768",
+        65_535 => "65,535",
+    }
 }
 
 /// A single move, a run and a winding order on the same words.
@@ -97,7 +137,10 @@ fn calls(table: &mut Table, rng: &mut Rng, lent: &Folded) {
     let coming = move_to_come(&lent.state, &lent.after, &lent.tail, &lent.marks);
     let (number, _) = step(table, lent);
     match (number, coming) {
-        (0, Some(to_come)) => table.meet(STEP_MADE, named(to_come)),
+        (0, Some(to_come)) => {
+            table.meet(STEP_MADE, named(to_come));
+            meet_mark(table, lent, to_come);
+        }
         (8, Some(to_come)) => table.meet(STEP_FAULT, named(to_come)),
         _ => {}
     }
@@ -136,6 +179,32 @@ fn named(to_come: ToCome) -> String {
         (None, Some(fault)) => format!("{fault:?}"),
         (None, None) => String::from("none"),
     }
+}
+
+/// Counts the marks that stood, before a move was made, on the element that e leads to or on the one closed.
+fn meet_mark(table: &mut Table, lent: &Folded, to_come: ToCome) {
+    match to_come.which {
+        None | Some(Move::Tree | Move::Turn) => {}
+        Some(Move::Nontree) => {
+            let at = led_to(lent).expect("a nontree move leads to an element");
+            let (mark, circular) = (limit(lent.marks[at]), lent.state[8]);
+            table.meet(LED_TO, format!("{mark}, circular {circular}"));
+        }
+        Some(which) => {
+            let mark = limit(lent.marks[usize::from(lent.state[3]) - 1]);
+            table.meet(CLOSED, format!("{which:?}, {mark}"));
+        }
+    }
+}
+
+/// The place in the marks of the element that e leads to, where it leads to one.
+fn led_to(lent: &Folded) -> Option<usize> {
+    let [n, _, _, _, e, ..] = lent.state[..] else {
+        return None;
+    };
+    let tail = usize::from(e.checked_sub(n)?).checked_sub(1)?;
+    let to = *lent.tail.get(tail)?;
+    (1..=n).contains(&to).then(|| usize::from(to) - 1)
 }
 
 /// Counts the moves that read a word they have just stored.
@@ -193,12 +262,7 @@ fn noise(rng: &mut Rng) -> Folded {
     }
     let mut after: Vec<u16> = (0..nodes + extra).map(|_| rng.node(nodes)).collect();
     let mut tail: Vec<u16> = (0..m + extra).map(|_| rng.node(nodes)).collect();
-    let mut marks: Vec<u16> = (0..nodes + extra).map(|_| rng.node(nodes)).collect();
-    for mark in &mut marks {
-        if rng.one_in(2) {
-            *mark = 0;
-        }
-    }
+    let mut marks: Vec<u16> = (0..nodes + extra).map(|_| rng.mark()).collect();
     let mut events = rng.pick(&[6, 6, 6, 7, 9, 12]);
     if rng.one_in(60) {
         match rng.below(4) {
@@ -220,34 +284,76 @@ fn noise(rng: &mut Rng) -> Folded {
     }
 }
 
-/// Noise in which a move reads a word that it has just stored: a tree move to v itself, a close with f = v.
-fn aliased(rng: &mut Rng) -> Folded {
+/// Noise with a reference, in areas that have all words of its sizes, and with v and e in kind.
+fn fitting_noise(rng: &mut Rng) -> Folded {
     loop {
-        let mut lent = noise(rng);
+        let lent = noise(rng);
         let [n, m, _, v, e, _, _, _, _] = lent.state[..] else {
             continue;
         };
-        // What is set below has to stand in the lent areas.
         let (elements, references) = (usize::from(n), usize::from(m));
-        if elements > lent.marks.len() || references > lent.tail.len() || references == 0 {
+        let nodes = elements + references;
+        if nodes > lent.after.len() || nodes > lent.marks.len() {
+            continue;
+        }
+        if references > lent.tail.len() || references == 0 {
             continue;
         }
         if v == 0 || v > n || e > n + m || (e != 0 && e <= n) {
             continue;
         }
-        if rng.one_in(2) && e != 0 {
-            lent.state[6] = 1;
-            lent.tail[usize::from(e - n) - 1] = v;
-            lent.marks[usize::from(v) - 1] = 0;
-        } else {
-            lent.state[5] = v;
-            lent.state[6] = rng.pick(&[1, 2, 2, 4]);
-            if rng.one_in(3) {
-                lent.state[4] = 0;
-            }
-        }
         return lent;
     }
+}
+
+/// Noise in which a move reads a word that it has just stored: a tree move to v itself, a close with f = v.
+fn aliased(rng: &mut Rng) -> Folded {
+    let mut lent = fitting_noise(rng);
+    let [n, _, _, v, e, ..] = lent.state[..] else {
+        return lent;
+    };
+    if rng.one_in(2) && e != 0 {
+        lent.state[6] = 1;
+        lent.tail[usize::from(e - n) - 1] = v;
+        lent.marks[usize::from(v) - 1] = 0;
+    } else {
+        lent.state[5] = v;
+        lent.state[6] = rng.pick(&[1, 2, 2, 4]);
+        if rng.one_in(3) {
+            lent.state[4] = 0;
+        }
+    }
+    lent
+}
+
+/// Noise in which e leads to an element with a mark at a limit, or an element with such a mark is to be closed.
+fn marked(rng: &mut Rng) -> Folded {
+    let mut lent = fitting_noise(rng);
+    let [n, m, _, v, ..] = lent.state[..] else {
+        return lent;
+    };
+    let reference = rng.between(1, usize::from(m));
+    let node = n + reference as u16;
+    let link = rng.pick(&[0, node]);
+    lent.after[usize::from(node) - 1] = link;
+    let element = rng.between(1, usize::from(n));
+    if rng.one_in(2) {
+        lent.state[4] = node;
+        lent.state[6] = 1;
+        lent.tail[reference - 1] = element as u16;
+        lent.marks[element - 1] = rng.mark();
+    } else {
+        // The start is closed with f 0, another element with f its parent.
+        let parent = if lent.state[2] == v { 0 } else { element };
+        if parent != 0 {
+            lent.after[parent - 1] = node;
+            lent.tail[reference - 1] = rng.below(usize::from(n) + 1) as u16;
+        }
+        lent.state[5] = parent as u16;
+        lent.state[6] = rng.pick(&[2, 2, 4]);
+        lent.marks[usize::from(v) - 1] = rng.mark();
+    }
+    lent
 }
 
 /// A sound walk after any number of moves, with or without a winding order.
@@ -289,17 +395,18 @@ fn changed_under_way(table: &mut Table, rng: &mut Rng) -> Folded {
     let nodes = sound.nodes();
     let mut lent = under_way(table, rng, &sound);
     for _ in 0..rng.between(1, 2) {
-        let word = rng.node(nodes);
-        let areas = [
-            &mut lent.state,
-            &mut lent.after,
-            &mut lent.tail,
-            &mut lent.marks,
-        ];
-        let area = areas.into_iter().nth(rng.below(4)).expect("four areas");
+        let area = match rng.below(4) {
+            0 => &mut lent.state,
+            1 => &mut lent.after,
+            2 => &mut lent.tail,
+            _ => {
+                change_mark(rng, &mut lent);
+                continue;
+            }
+        };
         if !area.is_empty() {
             let at = rng.below(area.len());
-            area[at] = word;
+            area[at] = rng.node(nodes);
         }
     }
     let (number, left) = run(table, &lent, 40);
@@ -307,6 +414,18 @@ fn changed_under_way(table: &mut Table, rng: &mut Rng) -> Folded {
         0 => left,
         _ => lent,
     }
+}
+
+/// Another mark for the element that e leads to, for v, or for any.
+fn change_mark(rng: &mut Rng, lent: &mut Folded) {
+    let at = match rng.below(3) {
+        0 => led_to(lent),
+        1 => usize::from(lent.state[3]).checked_sub(1),
+        _ => None,
+    };
+    let at = at.filter(|&at| at < lent.marks.len());
+    let at = at.unwrap_or_else(|| rng.below(lent.marks.len()));
+    lent.marks[at] = rng.mark();
 }
 
 /// Each field of a state with each value at a limit, in every phase.

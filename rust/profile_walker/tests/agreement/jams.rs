@@ -1,7 +1,7 @@
 //! A jam after every move: the walk goes on, or is wound back from there to the end.
 
 use crate::demand::{LineA, LineB};
-use crate::profiles::{shaped, small, sound, Sound};
+use crate::profiles::{every_list, shaped, small, sound, Sound};
 use crate::rng::Rng;
 use crate::table::Table;
 
@@ -30,15 +30,7 @@ pub fn compare(table: &mut Table) {
 fn every_small_profile(table: &mut Table, rng: &mut Rng) {
     for n in 1..=3u16 {
         for m in 0..=3u32 {
-            let choices = usize::from(n * n);
-            for code in 0..choices.pow(m) {
-                let mut rest = code;
-                let mut pairs = Vec::new();
-                for _ in 0..m {
-                    let pair = (rest % choices) as u16;
-                    pairs.push((pair / n + 1, pair % n + 1));
-                    rest /= choices;
-                }
+            for pairs in every_list(n, m) {
                 for start in 1..=n {
                     let sound = Sound::of(rng, usize::from(n), start, &pairs, false);
                     jam(table, rng, &sound, 1);

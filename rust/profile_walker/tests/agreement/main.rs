@@ -4,6 +4,7 @@
 //! compared, and at the end a table of how many inputs of each call got which number.
 
 mod area;
+mod circles;
 mod demand;
 mod hostile;
 mod images;
@@ -27,7 +28,7 @@ use table::{Table, CALLS};
 /// The topics that have ended and the sum of their tables. The last one prints it.
 static ENDED: Mutex<(usize, Table)> = Mutex::new((0, Table::new()));
 
-const TOPICS: usize = 8;
+const TOPICS: usize = 9;
 
 /// Runs a topic. Every number that its calls can return must have been returned.
 fn topic(name: &str, calls: &[&'static str], compare: fn(&mut Table)) {
@@ -95,6 +96,11 @@ fn jams_after_every_move_agree() {
 #[test]
 fn lists_of_calls_agree() {
     topic("lists of calls", &[], lists::compare);
+}
+
+#[test]
+fn circles_agree() {
+    topic("circles", &[], circles::compare);
 }
 
 #[test]

@@ -67,6 +67,16 @@ pub fn text(n: u16, m: u16, start: u16, pairs: &[(u16, u16)]) -> Vec<u8> {
     text.into_bytes()
 }
 
+/// Every list of so many references between n elements.
+pub fn every_list(n: u16, references: u32) -> impl Iterator<Item = Vec<(u16, u16)>> {
+    let choices = usize::from(n * n);
+    (0..choices.pow(references)).map(move |code| {
+        let pair = |place| (code / choices.pow(place) % choices) as u16;
+        let ends = |pair: u16| (pair / n + 1, pair % n + 1);
+        (0..references).map(|place| ends(pair(place))).collect()
+    })
+}
+
 const SHAPES: usize = 13;
 
 /// A profile of up to so many elements and references, in one of the shapes.

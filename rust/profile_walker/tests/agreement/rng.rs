@@ -2,6 +2,9 @@
 
 use crate::area::Area;
 
+/// Marks at the limits: those from 32,768 on are of elements not yet scanned.
+const MARKS: [u16; 9] = [0, 1, 7, 32_766, 32_767, 32_768, 32_769, 65_534, 65_535];
+
 /// Xorshift with a multiplier.
 pub struct Rng(u64);
 
@@ -50,6 +53,15 @@ impl Rng {
             1 => self.pick(&[u16::MAX, 1_000, 1_001, 5_000, 32_768]),
             2 => self.word(),
             _ => self.below(nodes + 1) as u16,
+        }
+    }
+
+    /// A mark: none, or one at a limit; now and then any word.
+    pub fn mark(&mut self) -> u16 {
+        match self.below(8) {
+            0..=2 => 0,
+            3 => self.word(),
+            _ => self.pick(&MARKS),
         }
     }
 
