@@ -6,8 +6,7 @@ use mathlib.Core.Bool.{Bool, true, false, cond, _&&_, not}
 use Prim.Native.Nat.{ℕ}
 use lib.Dec.{eqb, ltb, leb}
 use borrow.Author.Tests.{eqb-true, le-leb, lt-leb}
-use Rattle.lists.specs.Words.{at}
-use Rattle.folding.specs.Machine.{Config, walking, rollingBack, rolledBack, target, forward, fresh, Step, tree, nontree, relink, retreat, finish, undo-tree, undo-open, pickStep, stepOf, enact, step}
+use Rattle.folding.specs.Machine.{Config, walking, rollingBack, rolledBack, forward, markAhead, fresh, Step, tree, nontree, relink, retreat, finish, undo-tree, undo-open, pickStep, stepOf, enact, step}
 use Rattle.folding.specs.Claims.{marksBy, MarksClaim}
 
 -- Every step but the last of a roll-back changes marks by its events alone.
@@ -47,19 +46,20 @@ kept w b false false true = refl
 kept w b false false false = refl
 
 -- A step forward asks the mark of t(e).
-asked : (w : Config) (b : Bool) → stepOf w ≡ pickStep true b (ltb (w .n) (w .f)) (eqb (w .f) 0) (eqb (w .phase) rollingBack) → (b ≡ true → at 0 (w .marks) (target w (w .e)) ≡ 0) → step w .config .circular ≡ cond (leb 32768 (at 0 (w .marks) (target w (w .e)))) 1 (w .circular)
+asked : (w : Config) (b : Bool) → stepOf w ≡ pickStep true b (ltb (w .n) (w .f)) (eqb (w .f) 0) (eqb (w .phase) rollingBack) → (b ≡ true → markAhead w ≡ 0)
+    → step w .config .circular ≡ cond (leb 32768 (markAhead w)) 1 (w .circular)
 unfolding enact
 asked w true e z = ap (λ (s : Step). enact w s .config .circular) e ∙ ap (λ (k : ℕ). cond (leb 32768 k) 1 (w .circular)) (sym (z refl))
 asked w false e z = ap (λ (s : Step). enact w s .config .circular) e
 
-met : (w : Config) → forward w ≡ true → step w .config .circular ≡ cond (leb 32768 (at 0 (w .marks) (target w (w .e)))) 1 (w .circular)
-met w f = asked w (fresh w) (picked w f refl refl) (eqb-true (at 0 (w .marks) (target w (w .e))) 0)
+met : (w : Config) → forward w ≡ true → step w .config .circular ≡ cond (leb 32768 (markAhead w)) 1 (w .circular)
+met w f = asked w (fresh w) (picked w f refl refl) (eqb-true (markAhead w) 0)
 
 pub marks-claim : MarksClaim
 marks-claim = record {
   marks = λ w n. by-events w (stepOf w) n;
   rolling = λ w p n. rw (rolling-step w p) (rolled w (fresh w) (ltb (w .n) (w .f)) (eqb (w .f) 0) (rw (rolling-step w p) at n));
-  meets = λ w f h. met w f ∙ ap (λ (b : Bool). cond b 1 (w .circular)) (le-leb 32768 (at 0 (w .marks) (target w (w .e))) h);
-  passes = λ w f h. met w f ∙ ap (λ (b : Bool). cond b 1 (w .circular)) (lt-leb 32768 (at 0 (w .marks) (target w (w .e))) h);
+  meets = λ w f h. met w f ∙ ap (λ (b : Bool). cond b 1 (w .circular)) (le-leb 32768 (markAhead w) h);
+  passes = λ w f h. met w f ∙ ap (λ (b : Bool). cond b 1 (w .circular)) (lt-leb 32768 (markAhead w) h);
   back = λ w f. ap (λ (s : Step). enact w s .config .circular) (picked w f refl refl) ∙ kept w (fresh w) (ltb (w .n) (w .f)) (eqb (w .f) 0) (eqb (w .phase) rollingBack);
 }

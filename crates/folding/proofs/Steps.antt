@@ -84,14 +84,16 @@ module _ (g : Image) (S : Sound g) (start : ℕ) where
         ∙ ap not k
 
     -- So is "labelled and not yet scanned".
-    circling-of : (v : ℕ) (done : List ℕ) (r : ℕ) (rs : List ℕ) (s : List Frame) (h : History) → Placed (graphOf g) start v done (r ∷ rs) s → Labels (g .n) (labelled h) → leb activeMark (at 0 (marksNow (g .n + g .m) h area) (at (g .n) (bentTail g s) r)) ≡ active (to g r) h
+    circling-of : (v : ℕ) (done : List ℕ) (r : ℕ) (rs : List ℕ) (s : List Frame) (h : History) → Placed (graphOf g) start v done (r ∷ rs) s → Labels (g .n) (labelled h)
+        → leb activeMark (at 0 (marksNow (g .n + g .m) h area) (at (g .n) (bentTail g s) r)) ≡ active (to g r) h
     circling-of v done r rs s h P L =
         let hx : Vertex (g .n) (to g r) = S .target r (ahead-edge v done r rs s P) in
         ap (λ (x : ℕ). leb activeMark (at 0 (marksNow (g .n + g .m) h area) x)) (ahead-tail g S start v done (r ∷ rs) s P r (here refl))
         ∙ marks-now-active (g .n + g .m) h area (few-labels h L) (to g r) (hx .0) (omega arith)
 
     -- The scan of v leaves its number.
-    scanned-marks : (v : ℕ) (h : History) → Vertex (g .n) v → Labels (g .n) (labelled h) → put 0 (marksNow (g .n + g .m) h area) v (at 0 (marksNow (g .n + g .m) h area) v % activeMark) ≡ marksNow (g .n + g .m) (h ▸ event scan 0 v) area
+    scanned-marks : (v : ℕ) (h : History) → Vertex (g .n) v → Labels (g .n) (labelled h)
+        → put 0 (marksNow (g .n + g .m) h area) v (at 0 (marksNow (g .n + g .m) h area) v % activeMark) ≡ marksNow (g .n + g .m) (h ▸ event scan 0 v) area
     scanned-marks v h hv L = marks-now-scan (g .n + g .m) h area (few-labels h L) v (hv .0) (omega arith)
 
     pub nontree-goes : (v : ℕ) (done : List ℕ) (r : ℕ) (rs : List ℕ) (s : List Frame) (stale : ℕ) (h : History) → Placed (graphOf g) start v done (r ∷ rs) s → Labels (g .n) (labelled h) → memb (to g r) (labelled h) ≡ true

@@ -13,7 +13,7 @@ use Rattle.graphs.specs.Depth.{DepthFirst}
 use Rattle.graphs.specs.Results.{marksLeft, marksNow}
 use Rattle.graphs.specs.Circles.{Circular, circularOf}
 use Rattle.graphs.specs.Image.{Image, graphOf}
-use Rattle.folding.specs.Machine.{Config, finished, rollingBack, rolledBack, target, forward, Stepped, canStep, step}
+use Rattle.folding.specs.Machine.{Config, finished, rollingBack, rolledBack, forward, markAhead, Stepped, canStep, step}
 use Rattle.folding.specs.Calls.{Reason, ended, spent, stuck, Answer, ran, taken, refused, Reply, refusing, over, fieldsIn, Run, run, Call, runFor, single, areaOf, numberOf, perform, runNumber, stepNumber, openNumber, unopened, rollBack, rollBackNumber, openReply}
 use Rattle.folding.specs.Lines.{Walker, Line, lineA, lineB}
 
@@ -81,8 +81,8 @@ marksBy k (event j r u ∷ es) marks = marksBy k es (markBy k j u marks)
 pub record MarksClaim : Type 0 where
   pub marks : (w : Config) → step w .config .phase ≢ rolledBack → step w .config .marks ≡ marksBy (w .next) (step w .events) (w .marks)
   pub rolling : (w : Config) → w .phase ≡ rollingBack → step w .config .phase ≢ rolledBack → step w .config .marks ≡ w .marks
-  pub meets : (w : Config) → forward w ≡ true → 32768 ≤ at 0 (w .marks) (target w (w .e)) → step w .config .circular ≡ 1
-  pub passes : (w : Config) → forward w ≡ true → at 0 (w .marks) (target w (w .e)) < 32768 → step w .config .circular ≡ w .circular
+  pub meets : (w : Config) → forward w ≡ true → 32768 ≤ markAhead w → step w .config .circular ≡ 1
+  pub passes : (w : Config) → forward w ≡ true → markAhead w < 32768 → step w .config .circular ≡ w .circular
   pub back : (w : Config) → forward w ≡ false → step w .config .circular ≡ w .circular
 
 -- ---- the run's tests

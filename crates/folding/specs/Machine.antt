@@ -60,9 +60,13 @@ pub data Step : Type 0 where
 abbrev pub forward : Config → Bool
 forward w = eqb (w .phase) walking && not (eqb (w .e) 0)
 
--- t(e) is unmarked, asked before any store.
+-- The mark of t(e), before any store.
+abbrev pub markAhead : Config → ℕ
+markAhead w = at 0 (w .marks) (target w (w .e))
+
+-- t(e) is unmarked.
 abbrev pub fresh : Config → Bool
-fresh w = eqb (at 0 (w .marks) (target w (w .e))) 0
+fresh w = eqb (markAhead w) 0
 
 -- ---- marks (document 02, item 5)
 -- Labelling marks an element 32,768 plus its number.
@@ -77,9 +81,9 @@ scanMark mark = mark % activeMark
 abbrev pub unscanned : ℕ → Bool
 unscanned mark = leb activeMark mark
 
--- t(e) counts as not yet scanned, asked before any store.
+-- t(e) counts as not yet scanned.
 abbrev pub circling : Config → Bool
-circling w = unscanned (at 0 (w .marks) (target w (w .e)))
+circling w = unscanned (markAhead w)
 
 -- The marks once v is scanned.
 abbrev pub scannedMarks : Config → List ℕ

@@ -190,7 +190,8 @@ module _ (G : Graph) (before : List ℕ) where
     search-orders : {u : ℕ} {h i : History} → Searches G before u h i → circularOf G i ≡ 0 → Ordered (scanned h) → Ordered (scanned i) × Mem u (scanned i)
     search-orders (searches {u} t) e o = let a = walk-orders t e o in ((a .1, a .0), here refl)
 
-    walk-orders : {u : ℕ} {rs : List ℕ} {h i : History} → Traverses G before u rs h i → circularOf G i ≡ 0 → Ordered (scanned h) → Ordered (scanned i) × ((r : ℕ) → Mem r rs → Mem (G .to r) (scanned i ++ before))
+    walk-orders : {u : ℕ} {rs : List ℕ} {h i : History} → Traverses G before u rs h i → circularOf G i ≡ 0
+        → Ordered (scanned h) → Ordered (scanned i) × ((r : ℕ) → Mem r rs → Mem (G .to r) (scanned i ++ before))
     walk-orders none e o = (o, λ r m. absurd (mem-nil m))
     walk-orders (tree {u} {r} {rs} {h} {i} {j} n s t) e o =
         let L = walk-later t in

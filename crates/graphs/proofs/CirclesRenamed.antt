@@ -48,7 +48,8 @@ module _ (A G : Graph) (f : ℕ → ℕ) where
       go false a ih = ih a
 
 -- The figure of two searches whose edges correspond.
-pub circular-renamed : {A G : Graph} {f : ℕ → ℕ} → Renaming A G f → (before : List ℕ) (start : ℕ) → Ready A before start → circularOf A (depthFirst A before start) ≡ circularOf G (depthFirst G before start)
+pub circular-renamed : {A G : Graph} {f : ℕ → ℕ} → Renaming A G f → (before : List ℕ) (start : ℕ) → Ready A before start
+    → circularOf A (depthFirst A before start) ≡ circularOf G (depthFirst G before start)
 circular-renamed {A} {G} {f} N before start R = sym (circular-by A G f (depthFirst A before start) kept) ∙ ap (circularOf G) (depth-renamed N before start (R .start-vertex))
   where
     kept : (r : ℕ) → Mem r (traversed (depthFirst A before start)) → Kept A G f r

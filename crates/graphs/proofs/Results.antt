@@ -36,7 +36,8 @@ marks-length k h area p = length-filled (λ x. rank x (labelled h)) k area p
 
 -- ---- marks while a folded walk is under way
 -- An element labelled now is not yet scanned.
-pub marks-now-label : (k : ℕ) (h : History) (area : List ℕ) (u : ℕ) → (Mem u (scanned h) → ⊥) → 0 < u → u ≤ k → put 0 (marksNow k h area) u (activeMark + suc (length (labelled h))) ≡ marksNow k (h ▸ event label 0 u) area
+pub marks-now-label : (k : ℕ) (h : History) (area : List ℕ) (u : ℕ) → (Mem u (scanned h) → ⊥) → 0 < u → u ≤ k
+    → put 0 (marksNow k h area) u (activeMark + suc (length (labelled h))) ≡ marksNow k (h ▸ event label 0 u) area
 marks-now-label k h area u new p q =
     put-filled (markNow h) k area u (activeMark + suc (length (labelled h))) p q
     ∙ filled-same (but (markNow h) u (activeMark + suc (length (labelled h)))) (markNow (h ▸ event label 0 u)) k area (λ x a b. go x (compare x u))

@@ -67,7 +67,8 @@ BreadthFirstClaim = (G : Graph) (before : List ℕ) (start : ℕ) → Ready G be
 -- Of every graph, vertices labelled beforehand and start, the figure of the whole depth-first search is 1 exactly where some vertex reached
 -- has a path of one edge or more back to itself, off the vertices labelled beforehand, and else 0.
 abbrev pub CircularClaim : Type 0
-CircularClaim = (G : Graph) (before : List ℕ) (start : ℕ) → Ready G before start → ((circularOf G (depthFirst G before start) ≡ 1) ↔ Circular G before start) × (circularOf G (depthFirst G before start) ≤ 1)
+CircularClaim = (G : Graph) (before : List ℕ) (start : ℕ) → Ready G before start
+    → ((circularOf G (depthFirst G before start) ≡ 1) ↔ Circular G before start) × (circularOf G (depthFirst G before start) ≤ 1)
 
 -- A search is taken exactly where the profile is sound and the areas are as long as stated.
 abbrev pub SoundClaim : Type 0

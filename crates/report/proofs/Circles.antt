@@ -25,7 +25,8 @@ said p none = p
 said p (some q) = q
 
 -- ---- a profile that is walked
-figure-printed : (p : Listing) (output : List ℕ) → Ready (graphFrom p) [] (p .start) → PrintsFigure p (take (length (walkPrinted (graphFrom p) (p .start))) (overlay (walkPrinted (graphFrom p) (p .start)) output))
+figure-printed : (p : Listing) (output : List ℕ) → Ready (graphFrom p) [] (p .start)
+    → PrintsFigure p (take (length (walkPrinted (graphFrom p) (p .start))) (overlay (walkPrinted (graphFrom p) (p .start)) output))
 unfolding walkPrinted
 figure-printed p output R =
     let ws = walkPrinted (graphFrom p) (p .start) in
