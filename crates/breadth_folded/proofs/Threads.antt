@@ -228,11 +228,11 @@ list-next : {g : Image} {v e a : ℕ} {later : List ℕ} → OnList g v e (a ∷
 list-next L = record { ends = L .ends; linked = L .linked .1; on-list = λ z k. L .on-list z (there k); edges = λ r k. L .edges r (there k); once = L .once .1 }
 
 -- v is being scanned, and e is v or the last edge traversed; `last` is the last node of the last that waits.
-pub record Passing (g : Image) (start v : ℕ) (marks₀ events₀ t₀ after marks events t : List ℕ) (last e : ℕ) : Type 0 where
+pub record Passing (g : Image) (before : List ℕ) (start v : ℕ) (marks₀ events₀ t₀ after marks events t : List ℕ) (last e : ℕ) : Type 0 where
   h : History
   rest : List ℕ
   q : List ℕ
-  in-scan : InScan g start h v rest q marks₀ events₀ marks events t
+  in-scan : InScan g before start h v rest q marks₀ events₀ marks events t
   links : after ≡ threaded g (v ∷ q)
   end : last ≡ lastNode g (rear v q)
   on-list : OnList g v e rest
@@ -252,15 +252,15 @@ pub record Ahead (g : Image) (after marks : List ℕ) (last a x : ℕ) : Type 0 
   pub few-edges : g .m ≤ 4000
 
 -- What a turn leaves.
-pub record Turned (g : Image) (start v : ℕ) (marks₀ events₀ t₀ t after marks events t′ : List ℕ) (last e : ℕ) : Type 0 where
-  pub passing : Passing g start v marks₀ events₀ t₀ after marks events t′ last e
+pub record Turned (g : Image) (before : List ℕ) (start v : ℕ) (marks₀ events₀ t₀ t after marks events t′ : List ℕ) (last e : ℕ) : Type 0 where
+  pub passing : Passing g before start v marks₀ events₀ t₀ after marks events t′ last e
   pub more : total t < total t′
   pub few : total t′ ≤ 10000
 
 -- The same by other names.
-pub turned-as : {g : Image} {start v : ℕ} {marks₀ events₀ t₀ t after marks events t₂ after′ marks′ events′ t′ : List ℕ} {last e last′ : ℕ} → Turned g start v marks₀ events₀ t₀ t after marks events t₂ last e
+pub turned-as : {g : Image} {before : List ℕ} {start v : ℕ} {marks₀ events₀ t₀ t after marks events t₂ after′ marks′ events′ t′ : List ℕ} {last e last′ : ℕ} → Turned g before start v marks₀ events₀ t₀ t after marks events t₂ last e
     → after′ ≡ after → marks′ ≡ marks → events′ ≡ events → t′ ≡ t₂ → last′ ≡ last
-    → Turned g start v marks₀ events₀ t₀ t after′ marks′ events′ t′ last′ e
+    → Turned g before start v marks₀ events₀ t₀ t after′ marks′ events′ t′ last′ e
 turned-as {t₂ = t₂} {t′ = t′} T a b c d f =
     let P = T .passing in
     let same : total t′ ≡ total t₂ = ap total d in
@@ -289,7 +289,7 @@ next-edge n a [] [] p e h = absurd (let z : a ≡ 0 = e in omega arith)
 next-edge n a [] (y ∷ q) p e h = absurd (let z : a ≡ y = e in let k = p y (here refl) in omega arith)
 next-edge n a (r ∷ rs) q p e h = record { later = rs; is = ap (λ (z : ℕ). z ∷ rs) (sym e) }
 
-module _ {g : Image} {start v f : ℕ} {marks₀ events₀ after₁ marks₁ events₁ t₁ : List ℕ} (F : FoldedAt g start v f marks₀ events₀ after₁ marks₁ events₁ t₁) where
+module _ {g : Image} {before : List ℕ} {start v f : ℕ} {marks₀ events₀ after₁ marks₁ events₁ t₁ : List ℕ} (F : FoldedAt g before start v f marks₀ events₀ after₁ marks₁ events₁ t₁) where
   scan-queued : Labels (g .n) (v ∷ F .q)
   scan-queued = waiting-queued (F .waiting)
 
@@ -299,19 +299,19 @@ module _ {g : Image} {start v f : ℕ} {marks₀ events₀ after₁ marks₁ eve
   pub scan-first : (0 < v) × ((v ≤ 1000) × (v ≤ length after₁))
   scan-first = (scan-vertex .0, (omega (arith, scan-vertex .1, F .sound .few-vertices), omega (arith, scan-vertex .1, F .sound .long-after, ap length (F .links), threaded-length (F .sound) (v ∷ F .q))))
 
-  pub scan-start : Passing g start v marks₀ events₀ t₁ after₁ marks₁ events₁ t₁ f v
+  pub scan-start : Passing g before start v marks₀ events₀ t₁ after₁ marks₁ events₁ t₁ f v
   scan-start = record {
     h = F .h;
     rest = edgesOf g v;
     q = F .q;
-    in-scan = record { roomy = F .roomy; scanning = queue-begin (graphOf g) start (graph-closed g (F .sound)) (F .waiting); held = F .held };
+    in-scan = record { roomy = F .roomy; scanning = queue-begin (graphOf g) before start (graph-closed g (F .sound)) (F .waiting); held = F .held };
     links = F .links;
     end = F .last;
     on-list = list-start (F .sound) scan-vertex;
     more = omega arith;
   }
 
-  module _ {after marks events t : List ℕ} {last e : ℕ} (P : Passing g start v marks₀ events₀ t₁ after marks events t last e) where
+  module _ {after marks events t : List ℕ} {last e : ℕ} (P : Passing g before start v marks₀ events₀ t₁ after marks events t last e) where
     passing-queued : Labels (g .n) (v ∷ P .q)
     passing-queued = scanning-queued (P .in-scan .scanning)
 
@@ -343,8 +343,8 @@ module _ {g : Image} {start v f : ℕ} {marks₀ events₀ after₁ marks₁ eve
       N : Next a (P .rest)
       N = next-edge (g .n) a (P .rest) (P .q) (λ y k. passing-queued .all y (there k)) (word ∙ sym (read-at after e) ∙ passing-read) test
 
-      I : InScan g start (P .h) v (a ∷ N .later) (P .q) marks₀ events₀ marks events t
-      I = subst (λ (l : List ℕ). InScan g start (P .h) v l (P .q) marks₀ events₀ marks events t) (N .is) (P .in-scan)
+      I : InScan g before start (P .h) v (a ∷ N .later) (P .q) marks₀ events₀ marks events t
+      I = subst (λ (l : List ℕ). InScan g before start (P .h) v l (P .q) marks₀ events₀ marks events t) (N .is) (P .in-scan)
 
       L : OnList g v e (a ∷ N .later)
       L = subst (OnList g v e) (N .is) (P .on-list)
@@ -380,7 +380,7 @@ module _ {g : Image} {start v f : ℕ} {marks₀ events₀ after₁ marks₁ eve
       -- The edge is traversed.
       module _ {events₂ t₂ : List ℕ} (one : Emits 7 a v events t events₂ t₂) where
         -- It leads to a labelled vertex.
-        pub scan-pass : (getD marks (X - 1) 0 ≡ 0 → ⊥) → Turned g start v marks₀ events₀ t₁ t after marks events₂ t₂ last a
+        pub scan-pass : (getD marks (X - 1) 0 ≡ 0 → ⊥) → Turned g before start v marks₀ events₀ t₁ t after marks events₂ t₂ last a
         scan-pass ne = record {
           passing = record {
             h = P .h ▸ event traverse a v;
@@ -411,7 +411,7 @@ module _ {g : Image} {start v f : ℕ} {marks₀ events₀ after₁ marks₁ eve
           pub scan-join : {marks₃ events₃ t₃ : List ℕ} {last₃ : ℕ}
               → Puts X marks events₂ t₂ marks₃ events₃ t₃
               → last₃ ≡ lastFrom (g .m) (set after (last - 1) X) X
-              → Turned g start v marks₀ events₀ t₁ t (set after (last - 1) X) marks₃ events₃ t₃ last₃ a
+              → Turned g before start v marks₀ events₀ t₁ t (set after (last - 1) X) marks₃ events₃ t₃ last₃ a
           scan-join two l =
               let back : rear v (P .q ++ (X ∷ [])) ≡ X = rear-join v (P .q) X in
               record {
@@ -438,12 +438,12 @@ module _ {g : Image} {start v f : ℕ} {marks₀ events₀ after₁ marks₁ eve
           go [] k p = refl
           go (r ∷ rs) k p = absurd (let z : a ≡ r = k in let w = p r (here refl) in omega arith)
 
-      pub scan-end : {events₂ t₂ : List ℕ} → Emits 6 0 v events t events₂ t₂ → FoldedScanned g start v marks₀ events₀ after marks events₂ t₁ (record { e = e; f = last; next = a; tally = t₂ })
+      pub scan-end : {events₂ t₂ : List ℕ} → Emits 6 0 v events t events₂ t₂ → FoldedScanned g before start v marks₀ events₀ after marks events₂ t₁ (record { e = e; f = last; next = a; tally = t₂ })
       scan-end w = record {
         h = P .h ▸ event scan 0 v;
         q = P .q;
         queued = passing-queued;
-        waiting = queue-scan (graphOf g) start (subst (λ (l : List ℕ). Scanning (graphOf g) start (P .h) v l (P .q)) none-ahead (P .in-scan .scanning));
+        waiting = queue-scan (graphOf g) before start (subst (λ (l : List ℕ). Scanning (graphOf g) before start (P .h) v l (P .q)) none-ahead (P .in-scan .scanning));
         held = over-held (P .in-scan) w;
         links = P .links;
         end = sym (ap (lastOf e) none-ahead) ∙ P .on-list .ends;
@@ -456,11 +456,11 @@ module _ {g : Image} {start v f : ℕ} {marks₀ events₀ after₁ marks₁ eve
 -- What the loop of a scan keeps: a is the word of e, and v is being scanned.
 abbrev pub ScanKept : (n m start v f : ℕ) (after₁ tail marks₁ events₁ t₁ after marks events t : List ℕ) (last e a : ℕ) → Type 0
 ScanKept n m start v f after₁ tail marks₁ events₁ t₁ after marks events t last e a =
-    (a ≡ getD after (e - 1) 0) × ((after₀ marks₀ events₀ : List ℕ) → FoldedAt (image n m after₀ tail) start v f marks₀ events₀ after₁ marks₁ events₁ t₁ → Passing (image n m after₀ tail) start v marks₀ events₀ t₁ after marks events t last e)
+    (a ≡ getD after (e - 1) 0) × ((before after₀ marks₀ events₀ : List ℕ) → FoldedAt (image n m after₀ tail) before start v f marks₀ events₀ after₁ marks₁ events₁ t₁ → Passing (image n m after₀ tail) before start v marks₀ events₀ t₁ after marks events t last e)
 
 module _ {n m start v f : ℕ} {after₁ tail marks₁ events₁ t₁ after marks events t : List ℕ} {last e a : ℕ} (K : SomeFoldedAt n m start v f after₁ tail marks₁ events₁ t₁) (I : ScanKept n m start v f after₁ tail marks₁ events₁ t₁ after marks events t last e a) where
-  pub some-passing : Passing (image n m (K .after₀) tail) start v (K .marks₀) (K .events₀) t₁ after marks events t last e
-  some-passing = I .1 (K .after₀) (K .marks₀) (K .events₀) (K .is)
+  pub some-passing : Passing (image n m (K .after₀) tail) (K .before) start v (K .marks₀) (K .events₀) t₁ after marks events t last e
+  some-passing = I .1 (K .before) (K .after₀) (K .marks₀) (K .events₀) (K .is)
 
   pub some-ahead : n < a → Ahead (image n m (K .after₀) tail) after marks last a (getD tail (a - n - 1) 0)
   some-ahead h = scan-ahead (K .is) some-passing (I .0) h
@@ -474,11 +474,11 @@ module _ {n m start v f : ℕ} {after₁ tail marks₁ events₁ t₁ after mark
 
 -- ---- from scan to scan
 -- The vertices w wait: v the first of them, 0 where there is none, and f the last node of the last.
-pub record Searching (g : Image) (start : ℕ) (marks₀ events₀ after marks events t : List ℕ) (f v : ℕ) : Type 0 where
+pub record Searching (g : Image) (before : List ℕ) (start : ℕ) (marks₀ events₀ after marks events t : List ℕ) (f v : ℕ) : Type 0 where
   h : History
   w : List ℕ
-  waiting : Waiting (graphOf g) start h w
-  held : Held (g .n + g .m) h marks₀ events₀ marks events t
+  waiting : Waiting (graphOf g) before start h w
+  held : Held (g .n + g .m) before h marks₀ events₀ marks events t
   links : after ≡ threaded g w
   first : v ≡ head0 w
   last : (y : ℕ) (q : List ℕ) → w ≡ y ∷ q → f ≡ lastNode g (rear y q)
@@ -489,9 +489,9 @@ pub record Leading (g : Image) (after : List ℕ) (e : ℕ) : Type 0 where
   pub high : e ≤ length after
   pub small : e ≤ 5000
 
-module _ {g : Image} {start : ℕ} {marks₀ events₀ : List ℕ} (C : CanSearch g start marks₀ events₀) where
+module _ {g : Image} {before : List ℕ} {start : ℕ} {marks₀ events₀ : List ℕ} (C : CanSearch g before start marks₀ events₀) where
   first-queued : Labels (g .n) (start ∷ [])
-  first-queued = waiting-queued (first-waits g (C .sound) start (C .start-vertex))
+  first-queued = waiting-queued (first-waits g (C .sound) before start (C .start-vertex) (C .listed))
 
   pub search-few : (g .n ≤ 1000) × (g .m ≤ 4000)
   search-few = (C .sound .few-vertices, C .sound .few-edges)
@@ -500,23 +500,23 @@ module _ {g : Image} {start : ℕ} {marks₀ events₀ : List ℕ} (C : CanSearc
   search-ends = rear-ends (C .sound) start [] first-queued start refl
 
   search-first : {marks events t : List ℕ} {f : ℕ}
-      → Starts (g .n + g .m) start marks₀ events₀ marks events t
+      → Starts (g .n + g .m) before start marks₀ events₀ marks events t
       → f ≡ lastFrom (g .m) (g .after) start
-      → FoldedAt g start start f marks₀ events₀ (g .after) marks events t
+      → FoldedAt g before start start f marks₀ events₀ (g .after) marks events t
   search-first w l = record {
     sound = C .sound;
     start-vertex = C .start-vertex;
     roomy = C .roomy;
     h = [] ▸ event label 0 start;
     q = [];
-    waiting = first-waits g (C .sound) start (C .start-vertex);
-    held = first-held g (C .sound) start (C .start-vertex) (C .roomy) w;
+    waiting = first-waits g (C .sound) before start (C .start-vertex) (C .listed);
+    held = first-held g (C .sound) before start (C .start-vertex) (C .listed) (C .roomy) w;
     links = refl;
     last = l ∙ rear-last (C .sound) start [] first-queued start refl;
   }
 
-module _ {g : Image} {start v₁ f₁ : ℕ} {marks₀ events₀ after₁ marks₁ events₁ t₁ : List ℕ} (F : FoldedAt g start v₁ f₁ marks₀ events₀ after₁ marks₁ events₁ t₁) where
-  pub search-start : Searching g start marks₀ events₀ after₁ marks₁ events₁ t₁ f₁ v₁
+module _ {g : Image} {before : List ℕ} {start v₁ f₁ : ℕ} {marks₀ events₀ after₁ marks₁ events₁ t₁ : List ℕ} (F : FoldedAt g before start v₁ f₁ marks₀ events₀ after₁ marks₁ events₁ t₁) where
+  pub search-start : Searching g before start marks₀ events₀ after₁ marks₁ events₁ t₁ f₁ v₁
   search-start = record {
     h = F .h;
     w = v₁ ∷ F .q;
@@ -527,16 +527,16 @@ module _ {g : Image} {start v₁ f₁ : ℕ} {marks₀ events₀ after₁ marks�
     last = λ y q e. F .last ∙ (let a : v₁ ≡ y = cc in let b : F .q ≡ q = cc in λ i. lastNode g (rear (a i) (b i)));
   }
 
-  module _ {after marks events t : List ℕ} {f v : ℕ} (Z : Searching g start marks₀ events₀ after marks events t f v) where
+  module _ {after marks events t : List ℕ} {f v : ℕ} (Z : Searching g before start marks₀ events₀ after marks events t f v) where
     -- The areas keep their lengths.
     search-lengths : (length after ≡ length (g .after)) × ((length marks ≡ length marks₀) × (length events ≡ length events₀))
     search-lengths = (ap length (Z .links) ∙ threaded-length (F .sound) (Z .w), held-lengths (Z .held) (F .roomy) (waiting-room (Z .waiting) (graph-closed g (F .sound))))
 
     -- One waits.
-    search-next : (v ≡ 0 → ⊥) → FoldedAt g start v f marks₀ events₀ after marks events t
+    search-next : (v ≡ 0 → ⊥) → FoldedAt g before start v f marks₀ events₀ after marks events t
     search-next ne = go (Z .w) (Z .waiting) (Z .links) (Z .first) (Z .last)
       where
-        go : (w : List ℕ) → Waiting (graphOf g) start (Z .h) w → after ≡ threaded g w → v ≡ head0 w → ((y : ℕ) (q : List ℕ) → w ≡ y ∷ q → f ≡ lastNode g (rear y q)) → FoldedAt g start v f marks₀ events₀ after marks events t
+        go : (w : List ℕ) → Waiting (graphOf g) before start (Z .h) w → after ≡ threaded g w → v ≡ head0 w → ((y : ℕ) (q : List ℕ) → w ≡ y ∷ q → f ≡ lastNode g (rear y q)) → FoldedAt g before start v f marks₀ events₀ after marks events t
         go [] W l e k = absurd (ne e)
         go (y ∷ q) W l e k = record {
           sound = F .sound;
@@ -544,22 +544,22 @@ module _ {g : Image} {start v₁ f₁ : ℕ} {marks₀ events₀ after₁ marks�
           roomy = F .roomy;
           h = Z .h;
           q = q;
-          waiting = subst (λ (x : ℕ). Waiting (graphOf g) start (Z .h) (x ∷ q)) (sym e) W;
+          waiting = subst (λ (x : ℕ). Waiting (graphOf g) before start (Z .h) (x ∷ q)) (sym e) W;
           held = Z .held;
           links = l ∙ ap (λ (x : ℕ). threaded g (x ∷ q)) (sym e);
           last = k y q refl ∙ ap (λ (x : ℕ). lastNode g (rear x q)) (sym e);
         }
 
     -- None waits.
-    search-end : v ≡ 0 → Ended g start marks₀ events₀ after marks events t
+    search-end : v ≡ 0 → Ended g before start marks₀ events₀ after marks events t
     search-end e = go (Z .w) (Z .waiting) (Z .links) (Z .first)
       where
-        go : (w : List ℕ) → Waiting (graphOf g) start (Z .h) w → after ≡ threaded g w → v ≡ head0 w → Ended g start marks₀ events₀ after marks events t
-        go [] W l k = record { held = subst (λ (h : History). Held (g .n + g .m) h marks₀ events₀ marks events t) (queue-end (graphOf g) start W) (Z .held); links = l }
+        go : (w : List ℕ) → Waiting (graphOf g) before start (Z .h) w → after ≡ threaded g w → v ≡ head0 w → Ended g before start marks₀ events₀ after marks events t
+        go [] W l k = record { held = subst (λ (h : History). Held (g .n + g .m) before h marks₀ events₀ marks events t) (queue-end (graphOf g) before start W) (Z .held); links = l }
         go (y ∷ q) W l k = absurd (let z : v ≡ y = k in let p = waiting-queued W .all y (here refl) in omega arith)
 
     -- The first was scanned: the word of its last node, which leads on to the next, is cleared.
-    module _ {after′ marks′ events′ : List ℕ} {s : Scanned} (D : FoldedScanned g start v marks₀ events₀ after′ marks′ events′ t s) where
+    module _ {after′ marks′ events′ : List ℕ} {s : Scanned} (D : FoldedScanned g before start v marks₀ events₀ after′ marks′ events′ t s) where
       search-leading : Leading g after′ (s .e)
       search-leading =
           let k = last-node (F .sound) v (D .queued .all v (here refl)) in
@@ -574,7 +574,7 @@ module _ {g : Image} {start v₁ f₁ : ℕ} {marks₀ events₀ after₁ marks�
       search-less : 10000 - total (s .tally) < 10000 - total t
       search-less = omega (arith, D .more, held-total (D .held), waiting-room (D .waiting) (graph-closed g (F .sound)), F .roomy .few)
 
-      search-more : Searching g start marks₀ events₀ (set after′ (s .e - 1) 0) marks′ events′ (s .tally) (s .f) (s .next)
+      search-more : Searching g before start marks₀ events₀ (set after′ (s .e - 1) 0) marks′ events′ (s .tally) (s .f) (s .next)
       search-more = record {
         h = D .h;
         w = D .q;
@@ -589,35 +589,35 @@ module _ {g : Image} {start v₁ f₁ : ℕ} {marks₀ events₀ after₁ marks�
 -- What the loop of the search keeps, once the start waits.
 abbrev pub SearchKept : (n m start : ℕ) (after₁ tail marks₁ events₁ t₁ : List ℕ) (f₁ v₁ : ℕ) (after marks events t : List ℕ) (f v : ℕ) → Type 0
 SearchKept n m start after₁ tail marks₁ events₁ t₁ f₁ v₁ after marks events t f v =
-    (marks₀ events₀ : List ℕ) → FoldedAt (image n m after₁ tail) start v₁ f₁ marks₀ events₀ after₁ marks₁ events₁ t₁ → Searching (image n m after₁ tail) start marks₀ events₀ after marks events t f v
+    (before marks₀ events₀ : List ℕ) → FoldedAt (image n m after₁ tail) before start v₁ f₁ marks₀ events₀ after₁ marks₁ events₁ t₁ → Searching (image n m after₁ tail) before start marks₀ events₀ after marks events t f v
 
 -- What a scan promises.
 abbrev pub ScanPromise : (n m start v f : ℕ) (after tail marks events t after′ marks′ events′ : List ℕ) (s : Scanned) → Type 0
 ScanPromise n m start v f after tail marks events t after′ marks′ events′ s =
-    (after₀ marks₀ events₀ : List ℕ) → FoldedAt (image n m after₀ tail) start v f marks₀ events₀ after marks events t → FoldedScanned (image n m after₀ tail) start v marks₀ events₀ after′ marks′ events′ t s
+    (before after₀ marks₀ events₀ : List ℕ) → FoldedAt (image n m after₀ tail) before start v f marks₀ events₀ after marks events t → FoldedScanned (image n m after₀ tail) before start v marks₀ events₀ after′ marks′ events′ t s
 
-module _ {n m start : ℕ} {after₁ tail marks₀ events₀ marks₁ events₁ t₁ : List ℕ} {f₁ : ℕ} (C : CanSearch (image n m after₁ tail) start marks₀ events₀)
-    (starts : Starts (n + m) start marks₀ events₀ marks₁ events₁ t₁) (l : f₁ ≡ lastFrom m after₁ start)
+module _ {n m : ℕ} {before : List ℕ} {start : ℕ} {after₁ tail marks₀ events₀ marks₁ events₁ t₁ : List ℕ} {f₁ : ℕ} (C : CanSearch (image n m after₁ tail) before start marks₀ events₀)
+    (starts : Starts (n + m) before start marks₀ events₀ marks₁ events₁ t₁) (l : f₁ ≡ lastFrom m after₁ start)
     {after marks events t : List ℕ} {f v : ℕ} (I : SearchKept n m start after₁ tail marks₁ events₁ t₁ f₁ start after marks events t f v) where
-  begun : FoldedAt (image n m after₁ tail) start start f₁ marks₀ events₀ after₁ marks₁ events₁ t₁
+  begun : FoldedAt (image n m after₁ tail) before start start f₁ marks₀ events₀ after₁ marks₁ events₁ t₁
   begun = search-first C starts l
 
-  searching : Searching (image n m after₁ tail) start marks₀ events₀ after marks events t f v
-  searching = I marks₀ events₀ begun
+  searching : Searching (image n m after₁ tail) before start marks₀ events₀ after marks events t f v
+  searching = I before marks₀ events₀ begun
 
   pub some-next : (v ≡ 0 → ⊥) → SomeFoldedAt n m start v f after tail marks events t
-  some-next ne = record { after₀ = after₁; marks₀ = marks₀; events₀ = events₀; is = search-next begun searching ne }
+  some-next ne = record { before = before; after₀ = after₁; marks₀ = marks₀; events₀ = events₀; is = search-next begun searching ne }
 
   -- The areas are as long as they were.
   pub same-lengths : (length after ≡ length after₁) × ((length marks ≡ length marks₀) × (length events ≡ length events₀))
   same-lengths = search-lengths begun searching
 
-  pub ended : v ≡ 0 → Ended (image n m after₁ tail) start marks₀ events₀ after marks events t
+  pub ended : v ≡ 0 → Ended (image n m after₁ tail) before start marks₀ events₀ after marks events t
   ended = search-end begun searching
 
   module _ (ne : v ≡ 0 → ⊥) {after′ marks′ events′ : List ℕ} {s : Scanned} (P : ScanPromise n m start v f after tail marks events t after′ marks′ events′ s) where
-    over : FoldedScanned (image n m after₁ tail) start v marks₀ events₀ after′ marks′ events′ t s
-    over = P after₁ marks₀ events₀ (search-next begun searching ne)
+    over : FoldedScanned (image n m after₁ tail) before start v marks₀ events₀ after′ marks′ events′ t s
+    over = P before after₁ marks₀ events₀ (search-next begun searching ne)
 
     pub some-leading : Leading (image n m after₁ tail) after′ (s .e)
     some-leading = search-leading begun searching over
@@ -630,27 +630,27 @@ pub search-again : {n m start : ℕ} {after₁ tail marks₁ events₁ t₁ : Li
     → (v ≡ 0 → ⊥)
     → {after′ marks′ events′ : List ℕ} {s : Scanned} → ScanPromise n m start v f after tail marks events t after′ marks′ events′ s
     → SearchKept n m start after₁ tail marks₁ events₁ t₁ f₁ v₁ (set after′ (s .e - 1) 0) marks′ events′ (s .tally) (s .f) (s .next)
-search-again {after₁ = after₁} I ne P marks₀ events₀ F = let Z = I marks₀ events₀ F in search-more F Z (P after₁ marks₀ events₀ (search-next F Z ne))
+search-again {after₁ = after₁} I ne P before marks₀ events₀ F = let Z = I before marks₀ events₀ F in search-more F Z (P before after₁ marks₀ events₀ (search-next F Z ne))
 
 -- ---- the whole walk
 -- What a walk of g from start is to leave, given its number and its tally.
-abbrev pub Walk : (g : Image) (start : ℕ) (marks events : List ℕ) (number : ℕ) (t after′ marks′ events′ : List ℕ) → Type 0
-Walk g start marks events number t after′ marks′ events′ =
-    (number ≡ walkNumber g start marks events [])
-    × ((t ≡ tallied number (breadthWalk g start))
+abbrev pub Walk : (g : Image) (before : List ℕ) (start : ℕ) (marks events : List ℕ) (number : ℕ) (t after′ marks′ events′ : List ℕ) → Type 0
+Walk g before start marks events number t after′ marks′ events′ =
+    (number ≡ walkNumber g before start marks events [])
+    × ((t ≡ tallied number (breadthWalk g before start))
     × ((after′ ≡ g .after)
-    × ((marks′ ≡ unlessRefused number (marksLeft (g .n + g .m) (breadthWalk g start) marks) marks) × (events′ ≡ unlessRefused number (eventsLeft (breadthWalk g start) events) events))))
+    × ((marks′ ≡ unlessRefused number (marksLeft (g .n + g .m) before (breadthWalk g before start) marks) marks) × (events′ ≡ unlessRefused number (eventsLeft (breadthWalk g before start) events) events))))
 
-module _ (g : Image) (start : ℕ) (marks events : List ℕ) {k : ℕ} (is : k ≡ walkNumber g start marks events []) where
+module _ (g : Image) (before : List ℕ) (start : ℕ) (marks events : List ℕ) {k : ℕ} (is : k ≡ walkNumber g before start marks events []) where
   -- It is refused.
-  pub walk-refused : {number : ℕ} {t : List ℕ} → (number ≡ k) × (t ≡ noEvents) → (k ≡ 0 → ⊥) → Walk g start marks events number t (g .after) marks events
+  pub walk-refused : {number : ℕ} {t : List ℕ} → (number ≡ k) × (t ≡ noEvents) → (k ≡ 0 → ⊥) → Walk g before start marks events number t (g .after) marks events
   walk-refused {number} {t} r ne =
       let no : number ≢ 0 = λ e. ne (sym (r .0) ∙ e) in
-      (r .0 ∙ is, (r .1 ∙ zeros-tallied number (breadthWalk g start) no, (refl, (refused number _ marks no, refused number _ events no))))
+      (r .0 ∙ is, (r .1 ∙ zeros-tallied number (breadthWalk g before start) no, (refl, (refused number _ marks no, refused number _ events no))))
 
   -- It is taken.
-  pub walk-can : k ≡ 0 → CanSearch g start marks events
-  walk-can e = let B = begins g start marks events [] (sym is ∙ e) in record { sound = B .sound; start-vertex = B .start-vertex; roomy = B .breadth-room }
+  pub walk-can : k ≡ 0 → CanSearch g before start marks events
+  walk-can e = let B = begins g before start marks events [] (sym is ∙ e) in record { sound = B .sound; start-vertex = B .start-vertex; listed = B .listed; roomy = B .breadth-room }
 
-  pub walk-taken : {t after′ marks′ events′ : List ℕ} → k ≡ 0 → Ended g start marks events after′ marks′ events′ t → Walk g start marks events 0 t after′ marks′ events′
+  pub walk-taken : {t after′ marks′ events′ : List ℕ} → k ≡ 0 → Ended g before start marks events after′ marks′ events′ t → Walk g before start marks events 0 t after′ marks′ events′
   walk-taken e E = (sym e ∙ is, (E .held .counts, (E .links, (E .held .marked, E .held .written))))

@@ -11,6 +11,7 @@ use Rattle.graphs.specs.Image.{Image, chain, edgesOf, graphOf}
 use Rattle.graphs.proofs.Labels.{Labels}
 use Rattle.graphs.proofs.Sound.{head0, Linked, Sound}
 use Rattle.graphs.proofs.Queues.{Waiting}
+use Rattle.graphs.proofs.Blanks.{Listed}
 use Rattle.images.specs.Checking.{image}
 use Rattle.breadth_folded.specs.declared.Scanned.{Scanned}
 use Rattle.walks.specs.Promises.{breadthWalk}
@@ -50,31 +51,33 @@ pub record Ends (n m x : ℕ) (after : List ℕ) : Type 0 where
   pub edges : (r : ℕ) → Mem r list → Edge n m r
   pub short : length list ≤ m
 
--- Between two scans: v waits first, and f is the last node of the last that waits; the areas are those that the events so far leave.
-pub record FoldedAt (g : Image) (start v f : ℕ) (marks₀ events₀ after marks events t : List ℕ) : Type 0 where
+-- Between two scans, with the elements `before` on the blank: v waits first, and f is the last node of the last that waits; the areas are
+-- those that the events so far leave.
+pub record FoldedAt (g : Image) (before : List ℕ) (start v f : ℕ) (marks₀ events₀ after marks events t : List ℕ) : Type 0 where
   pub sound : Sound g
   pub start-vertex : Vertex (g .n) start
-  pub roomy : Roomy (g .n + g .m) (breadthWalk g start) marks₀ events₀
+  pub roomy : Roomy (g .n + g .m) (breadthWalk g before start) marks₀ events₀
   pub h : History
   pub q : List ℕ
-  pub waiting : Waiting (graphOf g) start h (v ∷ q)
-  pub held : Held (g .n + g .m) h marks₀ events₀ marks events t
+  pub waiting : Waiting (graphOf g) before start h (v ∷ q)
+  pub held : Held (g .n + g .m) before h marks₀ events₀ marks events t
   pub links : after ≡ threaded g (v ∷ q)
   pub last : f ≡ lastNode g (rear v q)
 
 pub record SomeFoldedAt (n m start v f : ℕ) (after tail marks events t : List ℕ) : Type 0 where
+  pub before : List ℕ
   pub after₀ : List ℕ
   pub marks₀ : List ℕ
   pub events₀ : List ℕ
-  pub is : FoldedAt (image n m after₀ tail) start v f marks₀ events₀ after marks events t
+  pub is : FoldedAt (image n m after₀ tail) before start v f marks₀ events₀ after marks events t
 
 -- v was scanned, but still leads on to the next.
-pub record FoldedScanned (g : Image) (start v : ℕ) (marks₀ events₀ after marks events t : List ℕ) (s : Scanned) : Type 0 where
+pub record FoldedScanned (g : Image) (before : List ℕ) (start v : ℕ) (marks₀ events₀ after marks events t : List ℕ) (s : Scanned) : Type 0 where
   pub h : History
   pub q : List ℕ
   pub queued : Labels (g .n) (v ∷ q)
-  pub waiting : Waiting (graphOf g) start h q
-  pub held : Held (g .n + g .m) h marks₀ events₀ marks events (s .tally)
+  pub waiting : Waiting (graphOf g) before start h q
+  pub held : Held (g .n + g .m) before h marks₀ events₀ marks events (s .tally)
   pub links : after ≡ threaded g (v ∷ q)
   pub end : s .e ≡ lastNode g v
   pub next : s .next ≡ head0 q
@@ -82,12 +85,13 @@ pub record FoldedScanned (g : Image) (start v : ℕ) (marks₀ events₀ after m
   pub more : total t < total (s .tally)
 
 -- The search can begin.
-pub record CanSearch (g : Image) (start : ℕ) (marks events : List ℕ) : Type 0 where
+pub record CanSearch (g : Image) (before : List ℕ) (start : ℕ) (marks events : List ℕ) : Type 0 where
   pub sound : Sound g
   pub start-vertex : Vertex (g .n) start
-  pub roomy : Roomy (g .n + g .m) (breadthWalk g start) marks events
+  pub listed : Listed (g .n) before start
+  pub roomy : Roomy (g .n + g .m) (breadthWalk g before start) marks events
 
 -- It has ended.
-pub record Ended (g : Image) (start : ℕ) (marks₀ events₀ after marks events t : List ℕ) : Type 0 where
-  pub held : Held (g .n + g .m) (breadthWalk g start) marks₀ events₀ marks events t
+pub record Ended (g : Image) (before : List ℕ) (start : ℕ) (marks₀ events₀ after marks events t : List ℕ) : Type 0 where
+  pub held : Held (g .n + g .m) before (breadthWalk g before start) marks₀ events₀ marks events t
   pub links : after ≡ g .after

@@ -58,7 +58,7 @@ fn scan_vertex(
     tally: [u32; 7],
 ) -> Scanned
     requires { ⌜ SomeFoldedAt n m start v f (now after) (now tail) (now marks) (now events) tally ⌝ }
-    ensures { λ q. ⌜ ((after₀ marks₀ events₀ : List ℕ) → FoldedAt (image n m after₀ (now (tail .entry))) start v f marks₀ events₀ (now (after .entry)) (now (marks .entry)) (now (events .entry)) tally → FoldedScanned (image n m after₀ (now (tail .entry))) start v marks₀ events₀ (now (after .exit)) (now (marks .exit)) (now (events .exit)) tally q) ⌝ }
+    ensures { λ q. ⌜ ((before after₀ marks₀ events₀ : List ℕ) → FoldedAt (image n m after₀ (now (tail .entry))) before start v f marks₀ events₀ (now (after .entry)) (now (marks .entry)) (now (events .entry)) tally → FoldedScanned (image n m after₀ (now (tail .entry))) before start v marks₀ events₀ (now (after .exit)) (now (marks .exit)) (now (events .exit)) tally q) ⌝ }
 {
     let mut t = tally;
     let mut last = f;
@@ -98,13 +98,14 @@ fn search(
     start: u16,
     after: &mut [u16],
     tail: &[u16],
+    before: &[u16],
     marks: &mut [u16],
     events: &mut [u16],
 ) -> [u32; 7]
-    requires { ⌜ CanSearch (image n m (now after) (now tail)) start (now marks) (now events) ⌝ }
-    ensures { λ q. ⌜ Ended (image n m (now (after .entry)) (now (tail .entry))) start (now (marks .entry)) (now (events .entry)) (now (after .exit)) (now (marks .exit)) (now (events .exit)) q ⌝ }
+    requires { ⌜ CanSearch (image n m (now after) (now tail)) (now before) start (now marks) (now events) ⌝ }
+    ensures { λ q. ⌜ Ended (image n m (now (after .entry)) (now (tail .entry))) (now (before .entry)) start (now (marks .entry)) (now (events .entry)) (now (after .exit)) (now (marks .exit)) (now (events .exit)) q ⌝ }
 {
-    let mut tally = begin(marks, events, n as usize + m as usize, start);
+    let mut tally = begin(marks, events, n as usize + m as usize, before, start);
     let mut f = last_node(n, m, start, after);
     let mut v = start;
     while v != 0 {
@@ -119,27 +120,29 @@ fn search(
     tally
 }
 
-// Breadth-first search of a linked image from start, with no area of its own. Refused by 1, 2, 3 (all areas), 4, 5, 6, 7.
+// Breadth-first search of a linked image from start, with the elements already on the blank and no area of its own. Refused by 1, 2, 3
+// (all areas), 4, 5, 6, 7, 17, 18.
 pub fn bfs_folded(
     n: u16,
     m: u16,
     start: Vertex,
     after: &mut [u16],
     tail: &[u16],
+    before: &[u16],
     marks: &mut [u16],
     events: &mut [u16],
 ) -> Walked
-    ensures number { λ r. ⌜ r .number ≡ walkNumber (image n m (now (after .entry)) (now (tail .entry))) (start .0) (now (marks .entry)) (now (events .entry)) [] ⌝ }
-    ensures tally { λ r. ⌜ r .tally ≡ tallied (r .number) (breadthWalk (image n m (now (after .entry)) (now (tail .entry))) (start .0)) ⌝ }
+    ensures number { λ r. ⌜ r .number ≡ walkNumber (image n m (now (after .entry)) (now (tail .entry))) (now (before .entry)) (start .0) (now (marks .entry)) (now (events .entry)) [] ⌝ }
+    ensures tally { λ r. ⌜ r .tally ≡ tallied (r .number) (breadthWalk (image n m (now (after .entry)) (now (tail .entry))) (now (before .entry)) (start .0)) ⌝ }
     ensures after { λ r. ⌜ now (after .exit) ≡ now (after .entry) ⌝ }
-    ensures marks { λ r. ⌜ now (marks .exit) ≡ unlessRefused (r .number) (marksLeft (n + m) (breadthWalk (image n m (now (after .entry)) (now (tail .entry))) (start .0)) (now (marks .entry))) (now (marks .entry)) ⌝ }
-    ensures events { λ r. ⌜ now (events .exit) ≡ unlessRefused (r .number) (eventsLeft (breadthWalk (image n m (now (after .entry)) (now (tail .entry))) (start .0)) (now (events .entry))) (now (events .entry)) ⌝ }
+    ensures marks { λ r. ⌜ now (marks .exit) ≡ unlessRefused (r .number) (marksLeft (n + m) (now (before .entry)) (breadthWalk (image n m (now (after .entry)) (now (tail .entry))) (now (before .entry)) (start .0)) (now (marks .entry))) (now (marks .entry)) ⌝ }
+    ensures events { λ r. ⌜ now (events .exit) ≡ unlessRefused (r .number) (eventsLeft (breadthWalk (image n m (now (after .entry)) (now (tail .entry))) (now (before .entry)) (start .0)) (now (events .entry))) (now (events .entry)) ⌝ }
 {
-    let k = walk_number(n, m, start, after, tail, marks, events, true);
+    let k = walk_number(n, m, start, after, tail, before, marks, events, true);
     if k != 0 {
         return refused(k);
     }
-    let tally = search(n, m, start.0, after, tail, marks, events);
+    let tally = search(n, m, start.0, after, tail, before, marks, events);
     Walked {
         number: 0,
         tally: tally,

@@ -71,9 +71,9 @@ queue-start n area start p =
     ∙ queue-label n [] area start p
 
 -- Behind the vertices scanned stands the first that waits.
-queue-word : {G : Graph} {start : ℕ} {h : History} {v : ℕ} {q : List ℕ} → Waiting G start h (v ∷ q) → (area : List ℕ) → getD (queueLeft (G .size) h area) (length (scanned h)) 0 ≡ v
+queue-word : {G : Graph} {before : List ℕ} {start : ℕ} {h : History} {v : ℕ} {q : List ℕ} → Waiting G before start h (v ∷ q) → (area : List ℕ) → getD (queueLeft (G .size) h area) (length (scanned h)) 0 ≡ v
 unfolding at
-queue-word {G} {start} {h} {v} {q} W area =
+queue-word {G} {before} {start} {h} {v} {q} W area =
     let us : List ℕ = scanned h in
     let order : reverse (labelled h) ≡ reverse us ++ (v ∷ q) = ap reverse (W .kept .order) ∙ reverseAux-reverseAux-nil (v ∷ q) us ∙ reverseAux-eq us (v ∷ q) in
     let few : suc (length us) ≤ G .size = omega (arith, waiting-count W, labels-few (G .size) (labelled h) (waiting-labels W)) in
@@ -97,11 +97,11 @@ record First (v : ℕ) (waits : List ℕ) : Type 0 where
   later : List ℕ
   is : waits ≡ v ∷ later
 
-module _ {g : Image} {start i : ℕ} {marks₀ queue₀ events₀ marks queue events t : List ℕ} (A : QueueAt g start i marks₀ queue₀ events₀ marks queue events t) where
+module _ {g : Image} {before : List ℕ} {start i : ℕ} {marks₀ queue₀ events₀ marks queue events t : List ℕ} (A : QueueAt g before start i marks₀ queue₀ events₀ marks queue events t) where
   at-closed : Closed (graphOf g)
   at-closed = graph-closed g (A .sound)
 
-  at-room : length (A .h) ≤ length (breadthWalk g start)
+  at-room : length (A .h) ≤ length (breadthWalk g before start)
   at-room = waiting-room (A .waiting) at-closed
 
   -- The number of vertices scanned is one of the counts.
@@ -127,36 +127,36 @@ module _ {g : Image} {start i : ℕ} {marks₀ queue₀ events₀ marks queue ev
   }
 
   -- All that were labelled are scanned: the search has ended.
-  pub at-end : getD t 0 0 ≤ i → Ended g start marks₀ queue₀ events₀ marks queue events t
+  pub at-end : getD t 0 0 ≤ i → Ended g before start marks₀ queue₀ events₀ marks queue events t
   at-end k = go (A .waits) (A .waiting)
     where
-      go : (q : List ℕ) → Waiting (graphOf g) start (A .h) q → Ended g start marks₀ queue₀ events₀ marks queue events t
+      go : (q : List ℕ) → Waiting (graphOf g) before start (A .h) q → Ended g before start marks₀ queue₀ events₀ marks queue events t
       go [] W =
-          let e = queue-end (graphOf g) start W in
-          record { held = subst (λ (x : History). Held (g .n + g .m) x marks₀ events₀ marks events t) e (A .held); queue-left = A .queue-left ∙ ap (λ (x : History). queueLeft (g .n) x queue₀) e }
+          let e = queue-end (graphOf g) before start W in
+          record { held = subst (λ (x : History). Held (g .n + g .m) before x marks₀ events₀ marks events t) e (A .held); queue-left = A .queue-left ∙ ap (λ (x : History). queueLeft (g .n) x queue₀) e }
       go (v ∷ q) W = absurd (omega (arith, held-labels (A .held), waiting-count W, A .place))
 
   module _ {v : ℕ} (some : i < getD t 0 0) (first : v ≡ getD queue i 0) where
     at-first : First v (A .waits)
     at-first = go (A .waits) (A .waiting)
       where
-        go : (q : List ℕ) → Waiting (graphOf g) start (A .h) q → First v q
+        go : (q : List ℕ) → Waiting (graphOf g) before start (A .h) q → First v q
         go [] W = absurd (omega (arith, held-labels (A .held), waiting-count W, A .place))
         go (u ∷ q) W =
             let e : v ≡ u = first ∙ (λ k. getD (A .queue-left k) (A .place k) 0) ∙ queue-word W queue₀ in
             record { later = q; is = ap (λ (x : ℕ). x ∷ q) (sym e) }
 
-    at-waiting : Waiting (graphOf g) start (A .h) (v ∷ at-first .later)
-    at-waiting = subst (Waiting (graphOf g) start (A .h)) (at-first .is) (A .waiting)
+    at-waiting : Waiting (graphOf g) before start (A .h) (v ∷ at-first .later)
+    at-waiting = subst (Waiting (graphOf g) before start (A .h)) (at-first .is) (A .waiting)
 
 -- ---- within a scan
 -- v is scanned, and e is the next of its edges: the areas are those that the events so far leave. `t₀` is the tally before the scan.
-pub record ScanAt (g : Image) (start v i : ℕ) (marks₀ queue₀ events₀ marks queue events t₀ t : List ℕ) (e : ℕ) : Type 0 where
+pub record ScanAt (g : Image) (before : List ℕ) (start v i : ℕ) (marks₀ queue₀ events₀ marks queue events t₀ t : List ℕ) (e : ℕ) : Type 0 where
   h : History
   done : List ℕ
   rest : List ℕ
   waits : List ℕ
-  in-scan : InScan g start h v rest waits marks₀ events₀ marks events t
+  in-scan : InScan g before start h v rest waits marks₀ events₀ marks events t
   ahead : Ahead g v e done rest
   queue-left : queue ≡ queueLeft (g .n) h queue₀
   place : i ≡ length (scanned h)
@@ -175,8 +175,8 @@ pub record Turn (g : Image) (marks queue t : List ℕ) (e x : ℕ) : Type 0 wher
   pub few : suc (total t) ≤ 10000
 
 -- Within a scan, with equal areas.
-scan-as : {g : Image} {start v i : ℕ} {marks₀ queue₀ events₀ marks queue events t₀ t marks′ queue′ events′ t′ : List ℕ} {e : ℕ}
-    → ScanAt g start v i marks₀ queue₀ events₀ marks queue events t₀ t e → marks′ ≡ marks → queue′ ≡ queue → events′ ≡ events → t′ ≡ t → ScanAt g start v i marks₀ queue₀ events₀ marks′ queue′ events′ t₀ t′ e
+scan-as : {g : Image} {before : List ℕ} {start v i : ℕ} {marks₀ queue₀ events₀ marks queue events t₀ t marks′ queue′ events′ t′ : List ℕ} {e : ℕ}
+    → ScanAt g before start v i marks₀ queue₀ events₀ marks queue events t₀ t e → marks′ ≡ marks → queue′ ≡ queue → events′ ≡ events → t′ ≡ t → ScanAt g before start v i marks₀ queue₀ events₀ marks′ queue′ events′ t₀ t′ e
 scan-as B a b c d = record {
   h = B .h;
   done = B .done;
@@ -190,7 +190,7 @@ scan-as B a b c d = record {
 }
 
 module _ {g : Image} {start v : ℕ} {marks queue events t : List ℕ} (P : SomeQueueAt g start v marks queue events t) where
-  module _ {i : ℕ} {marks₀ queue₀ events₀ : List ℕ} (A : QueueAt g start i marks₀ queue₀ events₀ marks queue events t) where
+  module _ {before : List ℕ} {i : ℕ} {marks₀ queue₀ events₀ : List ℕ} (A : QueueAt g before start i marks₀ queue₀ events₀ marks queue events t) where
     -- The place in the queue does not depend on the areas as lent.
     same-place : i ≡ P .i
     same-place = sym (at-scans A) ∙ at-scans (P .is)
@@ -204,20 +204,20 @@ module _ {g : Image} {start v : ℕ} {marks queue events t : List ℕ} (P : Some
     vertex : Vertex (g .n) v
     vertex = waiting-queued (at-waiting A some first) .all v (here refl)
 
-    pub scan-start : ScanAt g start v i marks₀ queue₀ events₀ marks queue events t t (getD (g .after) (v - 1) 0)
+    pub scan-start : ScanAt g before start v i marks₀ queue₀ events₀ marks queue events t t (getD (g .after) (v - 1) 0)
     scan-start = record {
       h = A .h;
       done = [];
       rest = graphOf g .out v;
       waits = at-first A some first .later;
-      in-scan = record { roomy = A .roomy; scanning = queue-begin (graphOf g) start (at-closed A) (at-waiting A some first); held = A .held };
+      in-scan = record { roomy = A .roomy; scanning = queue-begin (graphOf g) before start (at-closed A) (at-waiting A some first); held = A .held };
       ahead = subst (λ (e : ℕ). Ahead g v e [] (graphOf g .out v)) (read-at (g .after) v) (ahead-all (A .sound) vertex);
       queue-left = A .queue-left;
       place = A .place;
       since = omega arith;
     }
 
-    module _ {marks′ queue′ events′ t′ : List ℕ} {e : ℕ} (B : ScanAt g start v i marks₀ queue₀ events₀ marks′ queue′ events′ t t′ e) where
+    module _ {marks′ queue′ events′ t′ : List ℕ} {e : ℕ} (B : ScanAt g before start v i marks₀ queue₀ events₀ marks′ queue′ events′ t t′ e) where
       -- The areas keep their lengths.
       scan-lengths : (length marks′ ≡ length marks) × ((length queue′ ≡ length queue) × (length events′ ≡ length events))
       scan-lengths =
@@ -227,7 +227,7 @@ module _ {g : Image} {start v : ℕ} {marks queue events t : List ℕ} (P : Some
           (omega arith, (omega arith, omega arith))
 
       -- No edge is left: the scan is written.
-      pub scan-end : {events₁ t₁ : List ℕ} → e ≡ 0 → Emits 6 0 v events′ t′ events₁ t₁ → QueueScanned g start i marks₀ queue₀ events₀ marks′ queue′ events₁ t t₁
+      pub scan-end : {events₁ t₁ : List ℕ} → e ≡ 0 → Emits 6 0 v events′ t′ events₁ t₁ → QueueScanned g before start i marks₀ queue₀ events₀ marks′ queue′ events₁ t t₁
       scan-end z w = record {
         is = record {
           sound = A .sound;
@@ -236,7 +236,7 @@ module _ {g : Image} {start v : ℕ} {marks queue events t : List ℕ} (P : Some
           long = A .long;
           h = B .h ▸ event scan 0 v;
           waits = B .waits;
-          waiting = queue-scan (graphOf g) start (subst (λ (l : List ℕ). Scanning (graphOf g) start (B .h) v l (B .waits)) (ahead-none (A .sound) vertex (B .ahead) z) (B .in-scan .scanning));
+          waiting = queue-scan (graphOf g) before start (subst (λ (l : List ℕ). Scanning (graphOf g) before start (B .h) v l (B .waits)) (ahead-none (A .sound) vertex (B .ahead) z) (B .in-scan .scanning));
           held = over-held (B .in-scan) w;
           queue-left = B .queue-left;
           place = ap suc (B .place);
@@ -248,8 +248,8 @@ module _ {g : Image} {start v : ℕ} {marks queue events t : List ℕ} (P : Some
         N : Next g v e (B .done) (B .rest)
         N = ahead-next (A .sound) vertex (B .ahead) ne
 
-        I : InScan g start (B .h) v (e ∷ N .later) (B .waits) marks₀ events₀ marks′ events′ t′
-        I = subst (λ (l : List ℕ). InScan g start (B .h) v l (B .waits) marks₀ events₀ marks′ events′ t′) (N .is) (B .in-scan)
+        I : InScan g before start (B .h) v (e ∷ N .later) (B .waits) marks₀ events₀ marks′ events′ t′
+        I = subst (λ (l : List ℕ). InScan g before start (B .h) v l (B .waits) marks₀ events₀ marks′ events′ t′) (N .is) (B .in-scan)
 
         abbrev x : ℕ
         x = target g e
@@ -276,7 +276,7 @@ module _ {g : Image} {start v : ℕ} {marks queue events t : List ℕ} (P : Some
           onward = subst (λ (w : ℕ). Ahead g v w (B .done ++ (e ∷ [])) (N .later)) (read-at (g .after) e) (N .ahead)
 
           -- x is labelled already.
-          scan-pass : getD marks′ (x - 1) 0 ≢ 0 → ScanAt g start v i marks₀ queue₀ events₀ marks′ queue′ events₁ t t₁ (getD (g .after) (e - 1) 0)
+          scan-pass : getD marks′ (x - 1) 0 ≢ 0 → ScanAt g before start v i marks₀ queue₀ events₀ marks′ queue′ events₁ t t₁ (getD (g .after) (e - 1) 0)
           scan-pass k = record {
             h = B .h ▸ event traverse e v;
             done = B .done ++ (e ∷ []);
@@ -294,7 +294,7 @@ module _ {g : Image} {start v : ℕ} {marks queue events t : List ℕ} (P : Some
             scan-fits : getD t₁ 0 0 < g .n
             scan-fits = omega (arith, crossed-labels I one, edge-fits I one k)
 
-            scan-join : {marks₂ events₂ t₂ : List ℕ} → Puts x marks′ events₁ t₁ marks₂ events₂ t₂ → ScanAt g start v i marks₀ queue₀ events₀ marks₂ (set queue′ (getD t₁ 0 0) x) events₂ t t₂ (getD (g .after) (e - 1) 0)
+            scan-join : {marks₂ events₂ t₂ : List ℕ} → Puts x marks′ events₁ t₁ marks₂ events₂ t₂ → ScanAt g before start v i marks₀ queue₀ events₀ marks₂ (set queue′ (getD t₁ 0 0) x) events₂ t t₂ (getD (g .after) (e - 1) 0)
             scan-join two = record {
               h = B .h ▸ event traverse e v ▸ event label 0 x;
               done = B .done ++ (e ∷ []);
@@ -309,7 +309,7 @@ module _ {g : Image} {start v : ℕ} {marks queue events t : List ℕ} (P : Some
 
 -- What the loop of a scan keeps, whatever the areas as lent.
 abbrev pub ScanKept : Image → ℕ → ℕ → (marks queue events t marks′ queue′ events′ t′ : List ℕ) → ℕ → Type 0
-ScanKept g start v marks queue events t marks′ queue′ events′ t′ e = (i : ℕ) (marks₀ queue₀ events₀ : List ℕ) → QueueAt g start i marks₀ queue₀ events₀ marks queue events t → ScanAt g start v i marks₀ queue₀ events₀ marks′ queue′ events′ t t′ e
+ScanKept g start v marks queue events t marks′ queue′ events′ t′ e = (before : List ℕ) (i : ℕ) (marks₀ queue₀ events₀ : List ℕ) → QueueAt g before start i marks₀ queue₀ events₀ marks queue events t → ScanAt g before start v i marks₀ queue₀ events₀ marks′ queue′ events′ t t′ e
 
 -- A turn of that loop keeps it, and adds events.
 pub record Turned (g : Image) (start v : ℕ) (marks queue events t marks′ queue′ events′ t₁ t₂ : List ℕ) (e : ℕ) : Type 0 where
@@ -323,8 +323,8 @@ module _ {g : Image} {start v : ℕ} {marks queue events t : List ℕ} (P : Some
   kept-first = (vertex P (P .is), (P .is .sound .few-vertices, P .is .sound .long-after))
 
   module _ {marks′ queue′ events′ t′ : List ℕ} {e : ℕ} (K : ScanKept g start v marks queue events t marks′ queue′ events′ t′ e) where
-    now : ScanAt g start v (P .i) (P .marks₀) (P .queue₀) (P .events₀) marks′ queue′ events′ t t′ e
-    now = K (P .i) (P .marks₀) (P .queue₀) (P .events₀) (P .is)
+    now : ScanAt g (P .before) start v (P .i) (P .marks₀) (P .queue₀) (P .events₀) marks′ queue′ events′ t t′ e
+    now = K (P .before) (P .i) (P .marks₀) (P .queue₀) (P .events₀) (P .is)
 
     pub kept-turn : e ≢ 0 → Turn g marks′ queue′ t′ e (target g e)
     kept-turn = scan-turn P (P .is) now
@@ -342,7 +342,7 @@ module _ {g : Image} {start v : ℕ} {marks queue events t : List ℕ} (P : Some
       pub kept-pass : {marks₂ queue₂ events₂ t₂ : List ℕ} → getD marks′ (target g e - 1) 0 ≢ 0 → marks₂ ≡ marks′ → queue₂ ≡ queue′ → events₂ ≡ events₁ → t₂ ≡ t₁
           → Turned g start v marks queue events t marks₂ queue₂ events₂ t′ t₂ (getD (g .after) (e - 1) 0)
       kept-pass k a b c d = record {
-        is = λ i marks₀ queue₀ events₀ A. scan-as (scan-pass P A (K i marks₀ queue₀ events₀ A) ne one k) a b c d;
+        is = λ before i marks₀ queue₀ events₀ A. scan-as (scan-pass P A (K before i marks₀ queue₀ events₀ A) ne one k) a b c d;
         more = omega (arith, crossed-total (I P (P .is) now ne) one, ap total d);
         few = kept-turn ne .few;
       }
@@ -353,20 +353,20 @@ module _ {g : Image} {start v : ℕ} {marks queue events t : List ℕ} (P : Some
           → marks₂ ≡ marks₁ → queue₂ ≡ set queue′ (getD t₁ 0 0) (target g e) → events₂ ≡ events₃ → t₂ ≡ t₃
           → Turned g start v marks queue events t marks₂ queue₂ events₂ t′ t₂ (getD (g .after) (e - 1) 0)
       kept-join k two a b c d = record {
-        is = λ i marks₀ queue₀ events₀ A. scan-as (scan-join P A (K i marks₀ queue₀ events₀ A) ne one k two) a b c d;
+        is = λ before i marks₀ queue₀ events₀ A. scan-as (scan-join P A (K before i marks₀ queue₀ events₀ A) ne one k two) a b c d;
         more = omega (arith, edge-total (I P (P .is) now ne) one k two, ap total d);
         few = kept-turn ne .few;
       }
 
 -- ---- the whole search
 -- What the loop of the search keeps, whatever the areas as lent.
-abbrev pub SearchKept : Image → ℕ → (i₀ : ℕ) (marks queue events t : List ℕ) (i : ℕ) (marks′ queue′ events′ t′ : List ℕ) → Type 0
-SearchKept g start i₀ marks queue events t i marks′ queue′ events′ t′ = (marks₀ queue₀ events₀ : List ℕ) → QueueAt g start i₀ marks₀ queue₀ events₀ marks queue events t → QueueAt g start i marks₀ queue₀ events₀ marks′ queue′ events′ t′
+abbrev pub SearchKept : Image → List ℕ → ℕ → (i₀ : ℕ) (marks queue events t : List ℕ) (i : ℕ) (marks′ queue′ events′ t′ : List ℕ) → Type 0
+SearchKept g before start i₀ marks queue events t i marks′ queue′ events′ t′ = (marks₀ queue₀ events₀ : List ℕ) → QueueAt g before start i₀ marks₀ queue₀ events₀ marks queue events t → QueueAt g before start i marks₀ queue₀ events₀ marks′ queue′ events′ t′
 
-module _ {g : Image} {start : ℕ} {marks queue events : List ℕ} (C : CanSearch g start marks queue events) where
+module _ {g : Image} {before : List ℕ} {start : ℕ} {marks queue events : List ℕ} (C : CanSearch g before start marks queue events) where
   -- The start is labelled, and is the first of the queue.
-  module _ {marks′ queue′ events′ t : List ℕ} (clears : queue′ ≡ cleared (min (g .n) (length queue)) queue) (starts : Starts (g .n + g .m) start marks events marks′ events′ t) where
-    search-start : QueueAt g start 0 marks queue events marks′ (set queue′ 0 start) events′ t
+  module _ {marks′ queue′ events′ t : List ℕ} (clears : queue′ ≡ cleared (min (g .n) (length queue)) queue) (starts : Starts (g .n + g .m) before start marks events marks′ events′ t) where
+    search-start : QueueAt g before start 0 marks queue events marks′ (set queue′ 0 start) events′ t
     search-start = record {
       sound = C .sound;
       start-vertex = C .start-vertex;
@@ -374,50 +374,50 @@ module _ {g : Image} {start : ℕ} {marks queue events : List ℕ} (C : CanSearc
       long = C .long;
       h = [] ▸ event label 0 start;
       waits = start ∷ [];
-      waiting = first-waits g (C .sound) start (C .start-vertex);
-      held = first-held g (C .sound) start (C .start-vertex) (C .roomy) starts;
+      waiting = first-waits g (C .sound) before start (C .start-vertex) (C .listed);
+      held = first-held g (C .sound) before start (C .start-vertex) (C .listed) (C .roomy) starts;
       queue-left = ap (λ (l : List ℕ). set l 0 start) (clears ∙ all-cleared (g .n) queue (C .long)) ∙ queue-start (g .n) queue start (omega (arith, C .start-vertex));
       place = refl;
     }
 
-    pub search-at : {i : ℕ} {marks″ queue″ events″ t″ : List ℕ} → SearchKept g start 0 marks′ (set queue′ 0 start) events′ t i marks″ queue″ events″ t″ → QueueAt g start i marks queue events marks″ queue″ events″ t″
+    pub search-at : {i : ℕ} {marks″ queue″ events″ t″ : List ℕ} → SearchKept g before start 0 marks′ (set queue′ 0 start) events′ t i marks″ queue″ events″ t″ → QueueAt g before start i marks queue events marks″ queue″ events″ t″
     search-at K = K marks queue events search-start
 
 -- The next that waits can be scanned.
-pub search-scan : {g : Image} {start i : ℕ} {marks₀ queue₀ events₀ marks queue events t : List ℕ} → QueueAt g start i marks₀ queue₀ events₀ marks queue events t → i < getD t 0 0 → SomeQueueAt g start (getD queue i 0) marks queue events t
-search-scan {i = i} {marks₀} {queue₀} {events₀} A some = record { i = i; marks₀ = marks₀; queue₀ = queue₀; events₀ = events₀; is = A; some = some; first = refl }
+pub search-scan : {g : Image} {before : List ℕ} {start i : ℕ} {marks₀ queue₀ events₀ marks queue events t : List ℕ} → QueueAt g before start i marks₀ queue₀ events₀ marks queue events t → i < getD t 0 0 → SomeQueueAt g start (getD queue i 0) marks queue events t
+search-scan {before = before} {i = i} {marks₀} {queue₀} {events₀} A some = record { before = before; i = i; marks₀ = marks₀; queue₀ = queue₀; events₀ = events₀; is = A; some = some; first = refl }
 
 -- It was: one more is scanned.
-pub search-more : {g : Image} {start i : ℕ} {marks₀ queue₀ events₀ marks queue events t t′ : List ℕ} → QueueScanned g start i marks₀ queue₀ events₀ marks queue events t t′ → QueueAt g start (i + 1) marks₀ queue₀ events₀ marks queue events t′
-search-more {g} {start} {i} {marks₀} {queue₀} {events₀} {marks} {queue} {events} {t} {t′} Q = subst (λ (k : ℕ). QueueAt g start k marks₀ queue₀ events₀ marks queue events t′) (sym (add-one i)) (Q .is)
+pub search-more : {g : Image} {before : List ℕ} {start i : ℕ} {marks₀ queue₀ events₀ marks queue events t t′ : List ℕ} → QueueScanned g before start i marks₀ queue₀ events₀ marks queue events t t′ → QueueAt g before start (i + 1) marks₀ queue₀ events₀ marks queue events t′
+search-more {g} {before} {start} {i} {marks₀} {queue₀} {events₀} {marks} {queue} {events} {t} {t′} Q = subst (λ (k : ℕ). QueueAt g before start k marks₀ queue₀ events₀ marks queue events t′) (sym (add-one i)) (Q .is)
 
 -- And events were added.
-pub search-less : {g : Image} {start i : ℕ} {marks₀ queue₀ events₀ marks queue events t t′ : List ℕ} → QueueScanned g start i marks₀ queue₀ events₀ marks queue events t t′ → (total t < total t′) × (total t′ ≤ 10000)
+pub search-less : {g : Image} {before : List ℕ} {start i : ℕ} {marks₀ queue₀ events₀ marks queue events t t′ : List ℕ} → QueueScanned g before start i marks₀ queue₀ events₀ marks queue events t t′ → (total t < total t′) × (total t′ ≤ 10000)
 search-less Q = (Q .more, at-few (Q .is) .few)
 
 -- ---- the walk
 -- What the walk leaves: its number, the tally and the three areas.
-abbrev pub Leaves : Image → ℕ → (marks queue events : List ℕ) (k : ℕ) (t marks′ queue′ events′ : List ℕ) → Type 0
-Leaves g start marks queue events k t marks′ queue′ events′ =
-    (k ≡ walkNumber g start marks events (lent (g .n) queue ∷ []))
-    × ((t ≡ tallied k (breadthWalk g start))
-    × ((marks′ ≡ unlessRefused k (marksLeft (g .n + g .m) (breadthWalk g start) marks) marks)
-    × ((queue′ ≡ unlessRefused k (queueLeft (g .n) (breadthWalk g start) queue) queue)
-    × (events′ ≡ unlessRefused k (eventsLeft (breadthWalk g start) events) events))))
+abbrev pub Leaves : Image → List ℕ → ℕ → (marks queue events : List ℕ) (k : ℕ) (t marks′ queue′ events′ : List ℕ) → Type 0
+Leaves g before start marks queue events k t marks′ queue′ events′ =
+    (k ≡ walkNumber g before start marks events (lent (g .n) queue ∷ []))
+    × ((t ≡ tallied k (breadthWalk g before start))
+    × ((marks′ ≡ unlessRefused k (marksLeft (g .n + g .m) before (breadthWalk g before start) marks) marks)
+    × ((queue′ ≡ unlessRefused k (queueLeft (g .n) (breadthWalk g before start) queue) queue)
+    × (events′ ≡ unlessRefused k (eventsLeft (breadthWalk g before start) events) events))))
 
-module _ (g : Image) (start : ℕ) (marks queue events : List ℕ) {j : ℕ} (is : j ≡ walkNumber g start marks events (lent (g .n) queue ∷ [])) where
+module _ (g : Image) (before : List ℕ) (start : ℕ) (marks queue events : List ℕ) {j : ℕ} (is : j ≡ walkNumber g before start marks events (lent (g .n) queue ∷ [])) where
   -- A walk refused leaves all as it was.
-  pub walk-refused : {k : ℕ} {t : List ℕ} → (k ≡ j) × (t ≡ noEvents) → j ≢ 0 → Leaves g start marks queue events k t marks queue events
+  pub walk-refused : {k : ℕ} {t : List ℕ} → (k ≡ j) × (t ≡ noEvents) → j ≢ 0 → Leaves g before start marks queue events k t marks queue events
   walk-refused {k} r ne =
       let no : k ≢ 0 = λ e. ne (sym (r .0) ∙ e) in
-      (r .0 ∙ is, (r .1 ∙ zeros-tallied k (breadthWalk g start) no, (refused k _ marks no, (refused k _ queue no, refused k _ events no))))
+      (r .0 ∙ is, (r .1 ∙ zeros-tallied k (breadthWalk g before start) no, (refused k _ marks no, (refused k _ queue no, refused k _ events no))))
 
   -- A walk taken can begin.
-  pub walk-begins : j ≡ 0 → CanSearch g start marks queue events
+  pub walk-begins : j ≡ 0 → CanSearch g before start marks queue events
   walk-begins z =
-      let B = begins g start marks events (lent (g .n) queue ∷ []) (sym is ∙ z) in
-      record { sound = B .sound; start-vertex = B .start-vertex; roomy = B .breadth-room; long = long (g .n) queue [] (B .own-long) .0 }
+      let B = begins g before start marks events (lent (g .n) queue ∷ []) (sym is ∙ z) in
+      record { sound = B .sound; start-vertex = B .start-vertex; listed = B .listed; roomy = B .breadth-room; long = long (g .n) queue [] (B .own-long) .0 }
 
   -- And leaves what the search leaves.
-  pub walk-ends : {marks′ queue′ events′ t : List ℕ} → j ≡ 0 → Ended g start marks queue events marks′ queue′ events′ t → Leaves g start marks queue events 0 t marks′ queue′ events′
+  pub walk-ends : {marks′ queue′ events′ t : List ℕ} → j ≡ 0 → Ended g before start marks queue events marks′ queue′ events′ t → Leaves g before start marks queue events 0 t marks′ queue′ events′
   walk-ends z E = (sym z ∙ is, (E .held .counts, (E .held .marked, (E .queue-left, E .held .written))))

@@ -33,7 +33,7 @@ fn scan_vertex(
     tally: [u32; 7],
 ) -> [u32; 7]
     requires { ⌜ SomeQueueAt (image n m (now after) (now tail)) start v (now marks) (now queue) (now events) tally ⌝ }
-    ensures { λ q. ⌜ ((i : ℕ) (marks₀ queue₀ events₀ : List ℕ) → QueueAt (image n m (now (after .entry)) (now (tail .entry))) start i marks₀ queue₀ events₀ (now (marks .entry)) (now (queue .entry)) (now (events .entry)) tally → QueueScanned (image n m (now (after .entry)) (now (tail .entry))) start i marks₀ queue₀ events₀ (now (marks .exit)) (now (queue .exit)) (now (events .exit)) tally q) ⌝ }
+    ensures { λ q. ⌜ ((before : List ℕ) (i : ℕ) (marks₀ queue₀ events₀ : List ℕ) → QueueAt (image n m (now (after .entry)) (now (tail .entry))) before start i marks₀ queue₀ events₀ (now (marks .entry)) (now (queue .entry)) (now (events .entry)) tally → QueueScanned (image n m (now (after .entry)) (now (tail .entry))) before start i marks₀ queue₀ events₀ (now (marks .exit)) (now (queue .exit)) (now (events .exit)) tally q) ⌝ }
 {
     let mut t = tally;
     let i = v as usize - 1;
@@ -63,15 +63,16 @@ fn search(
     start: u16,
     after: &[u16],
     tail: &[u16],
+    before: &[u16],
     marks: &mut [u16],
     queue: &mut [u16],
     events: &mut [u16],
 ) -> [u32; 7]
-    requires { ⌜ CanSearch (image n m (now after) (now tail)) start (now marks) (now queue) (now events) ⌝ }
-    ensures { λ q. ⌜ Ended (image n m (now (after .entry)) (now (tail .entry))) start (now (marks .entry)) (now (queue .entry)) (now (events .entry)) (now (marks .exit)) (now (queue .exit)) (now (events .exit)) q ⌝ }
+    requires { ⌜ CanSearch (image n m (now after) (now tail)) (now before) start (now marks) (now queue) (now events) ⌝ }
+    ensures { λ q. ⌜ Ended (image n m (now (after .entry)) (now (tail .entry))) (now (before .entry)) start (now (marks .entry)) (now (queue .entry)) (now (events .entry)) (now (marks .exit)) (now (queue .exit)) (now (events .exit)) q ⌝ }
 {
     clear(queue, n as usize);
-    let mut tally = begin(marks, events, n as usize + m as usize, start);
+    let mut tally = begin(marks, events, n as usize + m as usize, before, start);
     queue[0] = start;
     let mut i: usize = 0;
     while i < tally[0] as usize {
@@ -83,29 +84,31 @@ fn search(
     tally
 }
 
-// Breadth-first search of a linked image from start, with n queue words. Refused by 1, 2, 3 (all areas), 4, 5, 6, 7.
+// Breadth-first search of a linked image from start, with the elements already on the blank and n queue words. Refused by 1, 2, 3 (all
+// areas), 4, 5, 6, 7, 17, 18.
 pub fn bfs_queue(
     n: u16,
     m: u16,
     start: Vertex,
     after: &[u16],
     tail: &[u16],
+    before: &[u16],
     marks: &mut [u16],
     queue: &mut [u16],
     events: &mut [u16],
 ) -> Walked
-    ensures number { λ r. ⌜ r .number ≡ walkNumber (image n m (now (after .entry)) (now (tail .entry))) (start .0) (now (marks .entry)) (now (events .entry)) (lent n (now (queue .entry)) ∷ []) ⌝ }
-    ensures tally { λ r. ⌜ r .tally ≡ tallied (r .number) (breadthWalk (image n m (now (after .entry)) (now (tail .entry))) (start .0)) ⌝ }
-    ensures marks { λ r. ⌜ now (marks .exit) ≡ unlessRefused (r .number) (marksLeft (n + m) (breadthWalk (image n m (now (after .entry)) (now (tail .entry))) (start .0)) (now (marks .entry))) (now (marks .entry)) ⌝ }
-    ensures queue { λ r. ⌜ now (queue .exit) ≡ unlessRefused (r .number) (queueLeft n (breadthWalk (image n m (now (after .entry)) (now (tail .entry))) (start .0)) (now (queue .entry))) (now (queue .entry)) ⌝ }
-    ensures events { λ r. ⌜ now (events .exit) ≡ unlessRefused (r .number) (eventsLeft (breadthWalk (image n m (now (after .entry)) (now (tail .entry))) (start .0)) (now (events .entry))) (now (events .entry)) ⌝ }
+    ensures number { λ r. ⌜ r .number ≡ walkNumber (image n m (now (after .entry)) (now (tail .entry))) (now (before .entry)) (start .0) (now (marks .entry)) (now (events .entry)) (lent n (now (queue .entry)) ∷ []) ⌝ }
+    ensures tally { λ r. ⌜ r .tally ≡ tallied (r .number) (breadthWalk (image n m (now (after .entry)) (now (tail .entry))) (now (before .entry)) (start .0)) ⌝ }
+    ensures marks { λ r. ⌜ now (marks .exit) ≡ unlessRefused (r .number) (marksLeft (n + m) (now (before .entry)) (breadthWalk (image n m (now (after .entry)) (now (tail .entry))) (now (before .entry)) (start .0)) (now (marks .entry))) (now (marks .entry)) ⌝ }
+    ensures queue { λ r. ⌜ now (queue .exit) ≡ unlessRefused (r .number) (queueLeft n (breadthWalk (image n m (now (after .entry)) (now (tail .entry))) (now (before .entry)) (start .0)) (now (queue .entry))) (now (queue .entry)) ⌝ }
+    ensures events { λ r. ⌜ now (events .exit) ≡ unlessRefused (r .number) (eventsLeft (breadthWalk (image n m (now (after .entry)) (now (tail .entry))) (now (before .entry)) (start .0)) (now (events .entry))) (now (events .entry)) ⌝ }
 {
     let long = n as usize <= queue.len();
-    let k = walk_number(n, m, start, after, tail, marks, events, long);
+    let k = walk_number(n, m, start, after, tail, before, marks, events, long);
     if k != 0 {
         return refused(k);
     }
-    let tally = search(n, m, start.0, after, tail, marks, queue, events);
+    let tally = search(n, m, start.0, after, tail, before, marks, queue, events);
     Walked {
         number: 0,
         tally: tally,

@@ -2,25 +2,25 @@
 -- An edge is its position: its rank on its vertex's list is the increment, and the tails differ from those lent only at the tree edges under way.
 use mathlib.Core.Path.{_≡_, refl, sym, ap, _∙_, subst}
 use mathlib.Core.Logic.{_≢_}
-use mathlib.Core.Bool.{Bool, true, false, cond}
+use mathlib.Core.Bool.{Bool, true, false, cond, not, _&&_, _||_}
 use mathlib.Core.List.{List, [], _∷_, _++_, reverse, reverseAux}
 use Prim.Native.Nat.{ℕ, zero, suc, _+_, _-_, _≤_, _<_, min, max}
 use native.Mathlib.Omega.{arith}
 use lib.Dec.{eqb}
 use lib.ListN.{length, getD, set, drop}
-use borrow.Author.Tests.{eq-eqb, ne-eqb}
+use borrow.Author.Tests.{eq-eqb, ne-eqb, not-true, not-false}
 use Rattle.lists.specs.Members.{Mem, here, there, memb}
 use Rattle.lists.specs.Counts.{rank}
 use Rattle.lists.specs.Words.{at, put, cleared, valuesFrom}
-use Rattle.lists.proofs.Tests.{Compared, equal, other, compare}
-use Rattle.lists.proofs.Members.{mem-memb, memb-false, mem-reverse}
+use Rattle.lists.proofs.Tests.{Compared, equal, other, compare, zero-test}
+use Rattle.lists.proofs.Members.{mem-memb, mem-left, memb-false, memb-append, mem-reverse}
 use Rattle.lists.proofs.Counts.{rank-none}
 use Rattle.lists.proofs.Words.{put-put, put-at, at-put, but, put-filled, at-filled, length-filled, cleared-filled, values-same, word-here, read-at}
 use Rattle.graphs.specs.Nodes.{Vertex}
 use Rattle.graphs.specs.Graph.{Graph}
-use Rattle.graphs.specs.Events.{event, label, advance-tree, advance-nontree, retreat-tree, retreat-nontree, scan, History, _▸_, labelled}
+use Rattle.graphs.specs.Events.{event, label, advance-tree, advance-nontree, retreat-tree, retreat-nontree, scan, History, _▸_, known, labelled}
 use Rattle.graphs.specs.ArrayForm.{ArrayForm, arrayGraph}
-use Rattle.graphs.specs.Results.{lastTree, incrementWord, incrementLeft}
+use Rattle.graphs.specs.Results.{blankMark, unlessBlank, lastTree, incrementWord, incrementLeft}
 use Rattle.graphs.proofs.ArraySound.{ArraySound}
 use Rattle.graphs.proofs.Owned.{values-in, array-owned}
 use Rattle.graphs.proofs.Room.{array-ready}
@@ -35,7 +35,7 @@ use Rattle.walks.specs.Moves.{Underway}
 use Rattle.walks.proofs.Storing.{all-cleared}
 use Rattle.walks.proofs.Progress.{Emits, Puts, Starts}
 use Rattle.walks.proofs.Moves as moves
-use Rattle.depth_array.specs.Increments.{ahead, tailsLeft, lastFrom, Left, CanSearch, ArrayAt, SomeArrayAt, Ended}
+use Rattle.depth_array.specs.Increments.{ahead, tailsLeft, lastFrom, Left, isNew, CanSearch, ArrayAt, SomeArrayAt, Ended}
 
 -- ---- positions
 -- Position p is named n + p.
@@ -144,19 +144,12 @@ module _ (G : Graph) (h : History) (area : List ℕ) where
   increment-at x hx = at-filled (incrementWord G h) (G .size) area x (hx .0) (hx .1)
 
   -- An increment of 0 is an unlabelled vertex.
-  increment-zero : (x : ℕ) → Vertex (G .size) x → at 0 (incrementLeft G h area) x ≡ 0 → memb x (labelled h) ≡ false
-  increment-zero x hx e = go (memb x (labelled h)) (sym (increment-at x hx) ∙ e)
+  increment-test : (x : ℕ) → Vertex (G .size) x → eqb (at 0 (incrementLeft G h area) x) 0 ≡ not (memb x (labelled h))
+  increment-test x hx = ap (λ (w : ℕ). eqb w 0) (increment-at x hx) ∙ go (memb x (labelled h))
     where
-      go : (b : Bool) → cond b (max 1 (rank (lastFrom h x) (reverse (G .out x)))) 0 ≡ 0 → b ≡ false
-      go true z = absurd (omega arith)
-      go false z = refl
-
-  increment-some : (x : ℕ) → Vertex (G .size) x → at 0 (incrementLeft G h area) x ≢ 0 → memb x (labelled h) ≡ true
-  increment-some x hx ne = go (memb x (labelled h)) refl
-    where
-      go : (b : Bool) → memb x (labelled h) ≡ b → b ≡ true
-      go true z = refl
-      go false z = absurd (ne (increment-at x hx ∙ rw z))
+      go : (b : Bool) → eqb (cond b (max 1 (rank (lastFrom h x) (reverse (G .out x)))) 0) 0 ≡ not b
+      go true = zero-test (max 1 (rank (lastFrom h x) (reverse (G .out x)))) (omega arith)
+      go false = refl
 
   -- A tree advance along r from v, and the label of x: two words change.
   module _ (v r x : ℕ) (hv : Vertex (G .size) v) (hx : Vertex (G .size) x) (seen : Mem v (labelled h)) (new : Mem x (labelled h) → ⊥) (none : lastFrom h x ≡ 0) (null : Mem 0 (G .out x) → ⊥) (w : ℕ) (some : 1 ≤ w) (is : rank r (reverse (G .out v)) ≡ w) where
@@ -258,10 +251,11 @@ pub record Within (a : ArrayForm) (tails increments : List ℕ) (p : Place) : Ty
   pub up-to : p .e ≤ getD (a .firsts) (p .v) 0
 
 -- The numbers where an edge is ahead: its position is one, and its tail a vertex.
-pub record Tail (a : ArrayForm) (tails : List ℕ) (p : Place) : Type 0 where
+pub record Tail (a : ArrayForm) (tails marks : List ℕ) (p : Place) : Type 0 where
   pub high : p .e ≤ a .m
   pub low-tail : 1 ≤ getD tails (p .e - 1) 0
   pub high-tail : getD tails (p .e - 1) 0 ≤ a .n
+  pub long-marks : a .n ≤ length marks
   pub few : 2 + p .progress .events ≤ 10000
 
 -- The numbers where v is left along a tree edge: its parent is a vertex, and the edge has a position.
@@ -273,7 +267,7 @@ pub record Back (a : ArrayForm) (increments : List ℕ) (p : Place) : Type 0 whe
   pub high : getD (a .firsts) (p .f - 1) 0 + getD increments (p .f - 1) 0 - 1 ≤ a .m
   pub few : 2 + p .progress .events ≤ 10000
 
-module _ {a : ArrayForm} {start : ℕ} {marks₀ increments₀ events₀ tails marks increments events : List ℕ} {p : Place} (A : ArrayAt a start marks₀ increments₀ events₀ tails marks increments events p) where
+module _ {a : ArrayForm} {before : List ℕ} {start : ℕ} {marks₀ increments₀ events₀ tails marks increments events : List ℕ} {p : Place} (A : ArrayAt a before start marks₀ increments₀ events₀ tails marks increments events p) where
   abbrev G : Graph
   G = arrayGraph a
 
@@ -319,34 +313,55 @@ module _ {a : ArrayForm} {start : ℕ} {marks₀ increments₀ events₀ tails m
     abbrev x : ℕ
     x = getD tails (p .e - 1) 0
 
-    on : Underway G (a .n + a .m) start (A .h) (p .v) (A .done) (r ∷ ahead a (p .v) (suc (p .e))) (A .s) marks₀ events₀ marks events (p .progress)
-    on = subst (λ (l : List ℕ). Underway G (a .n + a .m) start (A .h) (p .v) (A .done) l (A .s) marks₀ events₀ marks events (p .progress)) (ahead-next a (p .v) (p .e) (within .low) more) (A .underway)
+    on : Underway G (a .n + a .m) before start (A .h) (p .v) (A .done) (r ∷ ahead a (p .v) (suc (p .e))) (A .s) marks₀ events₀ marks events (p .progress)
+    on = subst (λ (l : List ℕ). Underway G (a .n + a .m) before start (A .h) (p .v) (A .done) l (A .s) marks₀ events₀ marks events (p .progress)) (ahead-next a (p .v) (p .e) (within .low) more) (A .underway)
 
     leads : G .to r ≡ x
     leads =
         let P = on .scene .placed in
-        sym (tails-kept (array-owned a (A .sound)) (λ du fs. parent fs) (a .tails) start (A .s) (p .v) (p .v) r (P .above) vertex (scene-edge G start (on .scene)) (P .distinct .0))
+        sym (tails-kept (array-owned a (A .sound)) (λ du fs. parent fs) (a .tails) start (A .s) (p .v) (p .v) r (P .above) vertex (scene-edge G before start (on .scene)) (P .distinct .0))
         ∙ ap (λ (l : List ℕ). at (a .n) l r) (sym (A .bent))
         ∙ tail-at (a .n) tails (p .e)
 
     target : Vertex (a .n) x
     target = subst (Vertex (a .n)) leads (moves.target-vertex on)
 
-    pub tail : Tail a tails p
+    pub tail : Tail a tails marks p
     tail =
         let w = within in
         let top = A .sound .from-one (suc (p .v)) (omega arith) (omega arith) in
-        record { high = omega (arith, more); low-tail = target .0; high-tail = target .1; few = moves.ahead-few on }
+        record { high = omega (arith, more); low-tail = target .0; high-tail = target .1; long-marks = omega (arith, moves.move-lengths on .0, on .roomy .long-marks); few = moves.ahead-few on }
 
-    -- It leads to a labelled vertex: on to the next position.
+    -- The increment and the mark of that vertex tell whether it is labelled or on the blank.
+    abbrev new-words : Bool
+    new-words = isNew (getD increments (getD tails (p .e - 1) 0 - 1) 0) (getD marks (getD tails (p .e - 1) 0 - 1) 0)
+
+    new-test : new-words ≡ not (memb x (known before (A .h)))
+    new-test =
+        (λ i. labelled-is i && not (eqb (mark-is i) blankMark))
+        ∙ go (memb x before) (memb x (labelled (A .h))) refl
+        ∙ ap not (sym (memb-append x (labelled (A .h)) before))
+      where
+        labelled-is : eqb (getD increments (x - 1) 0) 0 ≡ not (memb x (labelled (A .h)))
+        labelled-is = ap (λ (w : ℕ). eqb w 0) (increment-is x) ∙ increment-test G (A .h) increments₀ x target
+
+        mark-is : getD marks (x - 1) 0 ≡ unlessBlank before (λ y. rank y (labelled (A .h))) x
+        mark-is = sym (read-at marks x) ∙ ap (λ (l : List ℕ). at 0 l x) (on .areas .marked) ∙ at-filled (unlessBlank before (λ y. rank y (labelled (A .h)))) (a .n + a .m) marks₀ x (target .0) (let b = target in omega arith)
+
+        go : (b l : Bool) → memb x (labelled (A .h)) ≡ l → (not l && not (eqb (cond b blankMark (rank x (labelled (A .h)))) blankMark)) ≡ not (l || b)
+        go b true e = refl
+        go true false e = refl
+        go false false e = ap (λ (k : ℕ). not (eqb k blankMark)) (rank-none x (labelled (A .h)) (memb-false x (labelled (A .h)) e))
+
+    -- It leads to a labelled vertex, or one on the blank: on to the next position.
     module _ {t₁ t₂ : Progress} {events₁ events₂ : List ℕ} (one : Emits 3 (a .n + p .e) (p .v) events (p .progress) events₁ t₁) (two : Emits 4 (a .n + p .e) (p .v) events₁ t₁ events₂ t₂) where
       pub nontree-words : t₂ .events ≡ 2 + p .progress .events
       nontree-words = moves.pass-total on one two
 
-      pub nontree-move : getD increments (getD tails (p .e - 1) 0 - 1) 0 ≢ 0 → ArrayAt a start marks₀ increments₀ events₀ tails marks increments events₂ (record { v = p .v; e = p .e + 1; f = p .f; progress = t₂ })
-      nontree-move ne =
+      pub nontree-move : new-words ≡ false → ArrayAt a before start marks₀ increments₀ events₀ tails marks increments events₂ (record { v = p .v; e = p .e + 1; f = p .f; progress = t₂ })
+      nontree-move old =
           let i : History = A .h ▸ event advance-nontree r (p .v) ▸ event retreat-nontree r (p .v) in
-          let m : memb x (labelled (A .h)) ≡ true = increment-some G (A .h) increments₀ x target (λ e. ne (increment-is x ∙ e)) in
+          let m : memb x (known before (A .h)) ≡ true = not-false (memb x (known before (A .h))) (sym new-test ∙ old) in
           let l = A .low in
           let z : suc (p .e) ≡ p .e + 1 = omega arith in
           record {
@@ -355,7 +370,7 @@ module _ {a : ArrayForm} {start : ℕ} {marks₀ increments₀ events₀ tails m
             h = i;
             done = r ∷ A .done;
             s = A .s;
-            underway = subst (λ (e : ℕ). Underway G (a .n + a .m) start i (p .v) (r ∷ A .done) (ahead a (p .v) e) (A .s) marks₀ events₀ marks events₂ t₂) z (moves.pass-goes on one two (ap (λ (k : ℕ). memb k (labelled (A .h))) leads ∙ m));
+            underway = subst (λ (e : ℕ). Underway G (a .n + a .m) before start i (p .v) (r ∷ A .done) (ahead a (p .v) e) (A .s) marks₀ events₀ marks events₂ t₂) z (moves.pass-goes on one two (ap (λ (k : ℕ). memb k (known before (A .h))) leads ∙ m));
             low = omega arith;
             high = omega (arith, more);
             trailer = A .trailer;
@@ -366,18 +381,20 @@ module _ {a : ArrayForm} {start : ℕ} {marks₀ increments₀ events₀ tails m
 
     -- It leads to an unlabelled vertex: that is labelled, and scanned next.
     module _ {t₁ t₂ : Progress} {events₁ marks₂ events₂ : List ℕ} (one : Emits 2 (a .n + p .e) (p .v) events (p .progress) events₁ t₁) (two : Puts (getD tails (p .e - 1) 0) marks events₁ t₁ marks₂ events₂ t₂) where
-      pub tree-words : t₂ .events ≡ 2 + p .progress .events
-      tree-words = moves.tree-total on one x leads two
+      unseen : new-words ≡ true → memb x (known before (A .h)) ≡ false
+      unseen fresh = not-true (memb x (known before (A .h))) (sym new-test ∙ fresh)
 
-      pub tree-move : getD increments (getD tails (p .e - 1) 0 - 1) 0 ≡ 0 → ArrayAt a start marks₀ increments₀ events₀ (set tails (p .e - 1) (p .f)) marks₂ (set (set increments (p .v - 1) (p .e - getD (a .firsts) (p .v - 1) 0 + 1)) (getD tails (p .e - 1) 0 - 1) 1) events₂ (record { v = getD tails (p .e - 1) 0; e = getD (a .firsts) (getD tails (p .e - 1) 0 - 1) 0; f = p .v; progress = t₂ })
-      tree-move zero-word =
+      pub tree-words : new-words ≡ true → t₂ .events ≡ 2 + p .progress .events
+      tree-words fresh = moves.tree-total on one x leads two (unseen fresh)
+
+      pub tree-move : new-words ≡ true → ArrayAt a before start marks₀ increments₀ events₀ (set tails (p .e - 1) (p .f)) marks₂ (set (set increments (p .v - 1) (p .e - getD (a .firsts) (p .v - 1) 0 + 1)) (getD tails (p .e - 1) 0 - 1) 1) events₂ (record { v = getD tails (p .e - 1) 0; e = getD (a .firsts) (getD tails (p .e - 1) 0 - 1) 0; f = p .v; progress = t₂ })
+      tree-move fresh =
           let i : History = A .h ▸ event advance-tree r (p .v) ▸ event label 0 x in
           let s : List Frame = frame (p .v) (A .done) r (ahead a (p .v) (suc (p .e))) ∷ A .s in
           let hx = target in
           let S = A .underway .scene in
           let seen : Mem (p .v) (labelled (A .h)) = S .seen (p .v) (here refl) in
-          let m : memb x (labelled (A .h)) ≡ false = increment-zero G (A .h) increments₀ x hx (sym (increment-is x) ∙ zero-word) in
-          let new : Mem x (labelled (A .h)) → ⊥ = memb-false x (labelled (A .h)) m in
+          let new : Mem x (labelled (A .h)) → ⊥ = λ k. memb-false x (known before (A .h)) (unseen fresh) (mem-left before k) in
           let w : ℕ = p .e - getD (a .firsts) (p .v - 1) 0 + 1 in
           let rise = A .sound .rising x (suc x) (hx .0) (omega arith) (omega arith) in
           let is : rank r (reverse (G .out (p .v))) ≡ w = omega (arith, edge-rank a (A .sound) (p .v) (p .e) vertex (A .low) more, read-at (a .firsts) (p .v)) in
@@ -387,7 +404,7 @@ module _ {a : ArrayForm} {start : ℕ} {marks₀ increments₀ events₀ tails m
             h = i;
             done = [];
             s = s;
-            underway = subst (λ (e : ℕ). Underway G (a .n + a .m) start i x [] (ahead a x e) s marks₀ events₀ marks₂ events₂ t₂) (read-at (a .firsts) x) (moves.tree-goes on one x leads two m);
+            underway = subst (λ (e : ℕ). Underway G (a .n + a .m) before start i x [] (ahead a x e) s marks₀ events₀ marks₂ events₂ t₂) (read-at (a .firsts) x) (moves.tree-goes on one x leads two (unseen fresh));
             low = omega (arith, read-at (a .firsts) x);
             high = omega (arith, read-at (a .firsts) x);
             trailer = refl;
@@ -401,8 +418,8 @@ module _ {a : ArrayForm} {start : ℕ} {marks₀ increments₀ events₀ tails m
 
   -- ---- no edge ahead
   module _ (end : p .e ≡ at 0 (a .firsts) (suc (p .v))) where
-    done-at : Underway G (a .n + a .m) start (A .h) (p .v) (A .done) [] (A .s) marks₀ events₀ marks events (p .progress)
-    done-at = subst (λ (l : List ℕ). Underway G (a .n + a .m) start (A .h) (p .v) (A .done) l (A .s) marks₀ events₀ marks events (p .progress)) (ahead-none a (p .v) (p .e) end) (A .underway)
+    done-at : Underway G (a .n + a .m) before start (A .h) (p .v) (A .done) [] (A .s) marks₀ events₀ marks events (p .progress)
+    done-at = subst (λ (l : List ℕ). Underway G (a .n + a .m) before start (A .h) (p .v) (A .done) l (A .s) marks₀ events₀ marks events (p .progress)) (ahead-none a (p .v) (p .e) end) (A .underway)
 
     -- Back along a tree edge.
     module _ (child : p .f ≢ 0) where
@@ -412,8 +429,8 @@ module _ {a : ArrayForm} {start : ℕ} {marks₀ increments₀ events₀ tails m
       abbrev u : ℕ
       u = F .u
 
-      behind : Underway G (a .n + a .m) start (A .h) (p .v) (A .done) [] (frame u (F .du) (F .r) (F .ru) ∷ F .below) marks₀ events₀ marks events (p .progress)
-      behind = subst (λ (s : List Frame). Underway G (a .n + a .m) start (A .h) (p .v) (A .done) [] s marks₀ events₀ marks events (p .progress)) (F .is) done-at
+      behind : Underway G (a .n + a .m) before start (A .h) (p .v) (A .done) [] (frame u (F .du) (F .r) (F .ru) ∷ F .below) marks₀ events₀ marks events (p .progress)
+      behind = subst (λ (s : List Frame). Underway G (a .n + a .m) before start (A .h) (p .v) (A .done) [] s marks₀ events₀ marks events (p .progress)) (F .is) done-at
 
       is-parent : p .f ≡ u
       is-parent = A .trailer ∙ ap parent (F .is)
@@ -455,7 +472,7 @@ module _ {a : ArrayForm} {start : ℕ} {marks₀ increments₀ events₀ tails m
           record { low-parent = omega arith; high-parent = omega arith; low = omega arith; high = omega arith; some = omega (arith, word-back); few = moves.back-few behind }
 
       module _ {t₁ t₂ : Progress} {events₁ events₂ : List ℕ} (one : Emits 6 0 (p .v) events (p .progress) events₁ t₁) where
-        back-at : Emits 5 (F .r) u events₁ t₁ events₂ t₂ → ArrayAt a start marks₀ increments₀ events₀ (set tails (stand .p - 1) (p .v)) marks increments events₂ (record { v = u; e = stand .p + 1; f = getD tails (stand .p - 1) 0; progress = t₂ })
+        back-at : Emits 5 (F .r) u events₁ t₁ events₂ t₂ → ArrayAt a before start marks₀ increments₀ events₀ (set tails (stand .p - 1) (p .v)) marks increments events₂ (record { v = u; e = stand .p + 1; f = getD tails (stand .p - 1) 0; progress = t₂ })
         back-at two =
             let O = stand in
             let P = behind .scene .placed in
@@ -472,7 +489,7 @@ module _ {a : ArrayForm} {start : ℕ} {marks₀ increments₀ events₀ tails m
               h = i;
               done = F .r ∷ F .du;
               s = F .below;
-              underway = subst (λ (l : List ℕ). Underway G (a .n + a .m) start i u (F .r ∷ F .du) l (F .below) marks₀ events₀ marks events₂ t₂) (O .next ∙ ap (ahead a u) z) (moves.back-goes behind one two);
+              underway = subst (λ (l : List ℕ). Underway G (a .n + a .m) before start i u (F .r ∷ F .du) l (F .below) marks₀ events₀ marks events₂ t₂) (O .next ∙ ap (ahead a u) z) (moves.back-goes behind one two);
               low = omega arith;
               high = omega arith;
               trailer =
@@ -500,24 +517,24 @@ module _ {a : ArrayForm} {start : ℕ} {marks₀ increments₀ events₀ tails m
           pub back-words : t₂ .events ≡ 2 + p .progress .events
           back-words = moves.back-total behind one two-back
 
-          pub back-move : ArrayAt a start marks₀ increments₀ events₀ (set tails (e - 1) (p .v)) marks increments events₂ (record { v = p .f; e = e + 1; f = getD tails (e - 1) 0; progress = t₂ })
-          back-move = subst (λ (k : ℕ × ℕ). ArrayAt a start marks₀ increments₀ events₀ (set tails (k .0 - 1) (p .v)) marks increments events₂ (record { v = k .1; e = k .0 + 1; f = getD tails (k .0 - 1) 0; progress = t₂ })) found (back-at two-back)
+          pub back-move : ArrayAt a before start marks₀ increments₀ events₀ (set tails (e - 1) (p .v)) marks increments events₂ (record { v = p .f; e = e + 1; f = getD tails (e - 1) 0; progress = t₂ })
+          back-move = subst (λ (k : ℕ × ℕ). ArrayAt a before start marks₀ increments₀ events₀ (set tails (k .0 - 1) (p .v)) marks increments events₂ (record { v = k .1; e = k .0 + 1; f = getD tails (k .0 - 1) 0; progress = t₂ })) found (back-at two-back)
 
     -- The start is being scanned.
     module _ (root : p .f ≡ 0) where
       none : A .s ≡ []
       none = unframed G start (A .s) (p .v) (A .underway .scene .placed .above) (sym (A .trailer) ∙ root)
 
-      bottom : Underway G (a .n + a .m) start (A .h) (p .v) (A .done) [] [] marks₀ events₀ marks events (p .progress)
-      bottom = subst (λ (s : List Frame). Underway G (a .n + a .m) start (A .h) (p .v) (A .done) [] s marks₀ events₀ marks events (p .progress)) none done-at
+      bottom : Underway G (a .n + a .m) before start (A .h) (p .v) (A .done) [] [] marks₀ events₀ marks events (p .progress)
+      bottom = subst (λ (s : List Frame). Underway G (a .n + a .m) before start (A .h) (p .v) (A .done) [] s marks₀ events₀ marks events (p .progress)) none done-at
 
       -- Its scan is the last event.
-      pub ended : {o : Progress} {t₁ events₁ : List ℕ} → Emits 6 0 start events (p .progress) events₁ o → t₁ ≡ depthTally o → Ended a start marks₀ increments₀ events₀ tails marks increments events₁ t₁
+      pub ended : {o : Progress} {t₁ events₁ : List ℕ} → Emits 6 0 start events (p .progress) events₁ o → t₁ ≡ depthTally o → Ended a before start marks₀ increments₀ events₀ tails marks increments events₁ t₁
       ended w c = record { held = moves.end-held bottom w c; increments-left = A .increments-left ∙ ap (λ (i : History). incrementLeft G i increments₀) (moves.end-is bottom); tails-left = A .bent ∙ ap (tailsLeft a) none }
 
 -- ---- the start
-module _ {a : ArrayForm} {start : ℕ} {marks increments events : List ℕ} (C : CanSearch a start marks increments events) where
-  pub begun : {marks₁ increments₁ events₁ : List ℕ} {t₁ : Progress} → increments₁ ≡ cleared (min (a .n) (length increments)) increments → Starts (a .n + a .m) start marks events marks₁ events₁ t₁ → ArrayAt a start marks increments events (a .tails) marks₁ (set increments₁ (start - 1) 1) events₁ (record { v = start; e = getD (a .firsts) (start - 1) 0; f = 0; progress = t₁ })
+module _ {a : ArrayForm} {before : List ℕ} {start : ℕ} {marks increments events : List ℕ} (C : CanSearch a before start marks increments events) where
+  pub begun : {marks₁ increments₁ events₁ : List ℕ} {t₁ : Progress} → increments₁ ≡ cleared (min (a .n) (length increments)) increments → Starts (a .n + a .m) before start marks events marks₁ events₁ t₁ → ArrayAt a before start marks increments events (a .tails) marks₁ (set increments₁ (start - 1) 1) events₁ (record { v = start; e = getD (a .firsts) (start - 1) 0; f = 0; progress = t₁ })
   begun {marks₁} {increments₁} {events₁} {t₁} c w =
       let G : Graph = arrayGraph a in
       let hs = C .start-vertex in
@@ -528,7 +545,7 @@ module _ {a : ArrayForm} {start : ℕ} {marks increments events : List ℕ} (C :
         h = [] ▸ event label 0 start;
         done = [];
         s = [];
-        underway = subst (λ (e : ℕ). Underway G (a .n + a .m) start ([] ▸ event label 0 start) start [] (ahead a start e) [] marks events marks₁ events₁ t₁) (read-at (a .firsts) start) (moves.begun (array-ready a (C .sound) start hs) (omega arith) (C .roomy) w);
+        underway = subst (λ (e : ℕ). Underway G (a .n + a .m) before start ([] ▸ event label 0 start) start [] (ahead a start e) [] marks events marks₁ events₁ t₁) (read-at (a .firsts) start) (moves.begun (array-ready a (C .sound) before start hs (C .listed)) (omega arith) (C .roomy) w);
         low = omega (arith, read-at (a .firsts) start);
         high = omega (arith, read-at (a .firsts) start);
         trailer = refl;
@@ -543,13 +560,13 @@ module _ {a : ArrayForm} {start : ℕ} {marks increments events : List ℕ} (C :
 -- ---- from place to place
 -- Whatever areas were lent, the search goes on from one place to another.
 abbrev pub Onward : (n m start : ℕ) (firsts tails marks increments events : List ℕ) (p : Place) (tails₁ marks₁ increments₁ events₁ : List ℕ) (q : Place) → Type 0
-Onward n m start firsts tails marks increments events p tails₁ marks₁ increments₁ events₁ q = (tails₀ marks₀ increments₀ events₀ : List ℕ) → ArrayAt (arrayIn n m firsts tails₀) start marks₀ increments₀ events₀ tails marks increments events p → ArrayAt (arrayIn n m firsts tails₀) start marks₀ increments₀ events₀ tails₁ marks₁ increments₁ events₁ q
+Onward n m start firsts tails marks increments events p tails₁ marks₁ increments₁ events₁ q = (before tails₀ marks₀ increments₀ events₀ : List ℕ) → ArrayAt (arrayIn n m firsts tails₀) before start marks₀ increments₀ events₀ tails marks increments events p → ArrayAt (arrayIn n m firsts tails₀) before start marks₀ increments₀ events₀ tails₁ marks₁ increments₁ events₁ q
 
 pub some-onward : {n m start : ℕ} {firsts tails marks increments events : List ℕ} {p : Place} {tails₁ marks₁ increments₁ events₁ : List ℕ} {q : Place} → SomeArrayAt n m start firsts tails marks increments events p → Onward n m start firsts tails marks increments events p tails₁ marks₁ increments₁ events₁ q → SomeArrayAt n m start firsts tails₁ marks₁ increments₁ events₁ q
-some-onward S o = record { tails₀ = S .tails₀; marks₀ = S .marks₀; increments₀ = S .increments₀; events₀ = S .events₀; is = o (S .tails₀) (S .marks₀) (S .increments₀) (S .events₀) (S .is) }
+some-onward S o = record { before = S .before; tails₀ = S .tails₀; marks₀ = S .marks₀; increments₀ = S .increments₀; events₀ = S .events₀; is = o (S .before) (S .tails₀) (S .marks₀) (S .increments₀) (S .events₀) (S .is) }
 
-pub some-at : {n m start : ℕ} {firsts tails₀ marks₀ increments₀ events₀ tails marks increments events : List ℕ} {p : Place} → ArrayAt (arrayIn n m firsts tails₀) start marks₀ increments₀ events₀ tails marks increments events p → SomeArrayAt n m start firsts tails marks increments events p
-some-at {tails₀ = tails₀} {marks₀ = marks₀} {increments₀ = increments₀} {events₀ = events₀} A = record { tails₀ = tails₀; marks₀ = marks₀; increments₀ = increments₀; events₀ = events₀; is = A }
+pub some-at : {n m : ℕ} {before : List ℕ} {start : ℕ} {firsts tails₀ marks₀ increments₀ events₀ tails marks increments events : List ℕ} {p : Place} → ArrayAt (arrayIn n m firsts tails₀) before start marks₀ increments₀ events₀ tails marks increments events p → SomeArrayAt n m start firsts tails marks increments events p
+some-at {before = before} {tails₀ = tails₀} {marks₀ = marks₀} {increments₀ = increments₀} {events₀ = events₀} A = record { before = before; tails₀ = tails₀; marks₀ = marks₀; increments₀ = increments₀; events₀ = events₀; is = A }
 
 -- The areas keep their lengths.
 pub record Long (tails₀ marks₀ increments₀ events₀ tails marks increments events : List ℕ) : Type 0 where
@@ -558,13 +575,13 @@ pub record Long (tails₀ marks₀ increments₀ events₀ tails marks increment
   pub increments-long : length increments ≡ length increments₀
   pub events-long : length events ≡ length events₀
 
-lengths : {a : ArrayForm} {start : ℕ} {marks₀ increments₀ events₀ tails marks increments events : List ℕ} {p : Place} → ArrayAt a start marks₀ increments₀ events₀ tails marks increments events p → Long (a .tails) marks₀ increments₀ events₀ tails marks increments events
+lengths : {a : ArrayForm} {before : List ℕ} {start : ℕ} {marks₀ increments₀ events₀ tails marks increments events : List ℕ} {p : Place} → ArrayAt a before start marks₀ increments₀ events₀ tails marks increments events p → Long (a .tails) marks₀ increments₀ events₀ tails marks increments events
 lengths A = let l = moves.move-lengths (A .underway) in record { tails-long = tails-same A; marks-long = l .0; increments-long = increments-same A; events-long = l .1 }
 
 pub kept : {n m start : ℕ} {firsts tails marks increments events : List ℕ} {p : Place} {tails₁ marks₁ increments₁ events₁ : List ℕ} {q : Place} → SomeArrayAt n m start firsts tails marks increments events p → Onward n m start firsts tails marks increments events p tails₁ marks₁ increments₁ events₁ q → Long tails marks increments events tails₁ marks₁ increments₁ events₁
 kept S o =
     let x = lengths (S .is) in
-    let y = lengths (o (S .tails₀) (S .marks₀) (S .increments₀) (S .events₀) (S .is)) in
+    let y = lengths (o (S .before) (S .tails₀) (S .marks₀) (S .increments₀) (S .events₀) (S .is)) in
     record { tails-long = y .tails-long ∙ sym (x .tails-long); marks-long = y .marks-long ∙ sym (x .marks-long); increments-long = y .increments-long ∙ sym (x .increments-long); events-long = y .events-long ∙ sym (x .events-long) }
 
 -- An edge is ahead of v, or none.

@@ -1,5 +1,6 @@
 -- The search over the array form: the tails as a function of the place, and what its moves ask of each other.
 use mathlib.Core.Path.{_≡_}
+use mathlib.Core.Bool.{Bool, not, _&&_}
 use mathlib.Core.List.{List, [], _∷_}
 use Prim.Native.Nat.{ℕ, suc, _+_, _-_, _≤_}
 use lib.Dec.{eqb}
@@ -7,7 +8,7 @@ use lib.ListN.{length}
 use Rattle.lists.specs.Words.{at, valuesFrom}
 use Rattle.graphs.specs.Events.{History}
 use Rattle.graphs.specs.ArrayForm.{ArrayForm, arrayGraph}
-use Rattle.graphs.specs.Results.{lastTree, incrementLeft}
+use Rattle.graphs.specs.Results.{blankMark, lastTree, incrementLeft}
 use Rattle.graphs.proofs.ArraySound.{ArraySound}
 use Rattle.graphs.proofs.Places.{Frame, frame, parent}
 use Rattle.graphs.proofs.Tails.{bentTails}
@@ -35,19 +36,23 @@ abbrev pub Left : History → List Frame → Type 0
 Left h [] = Unit {0}
 Left h (frame u du r ru ∷ s) = (lastFrom h u ≡ r) × Left h s
 
--- The search can begin.
-abbrev pub CanSearch : (a : ArrayForm) (start : ℕ) (marks increments events : List ℕ) → Type 0
-CanSearch a start marks increments events = ArrayBegins a start marks increments events
+-- A vertex with this increment and this mark is not labelled: the increment is 0, and the mark is not that of an element on the blank.
+abbrev pub isNew : ℕ → ℕ → Bool
+isNew increment mark = eqb increment 0 && not (eqb mark blankMark)
 
--- At a place: the edges ahead begin with position e, the trailer is the parent of v, and tails and increments are those that the events so far
--- leave.
-pub record ArrayAt (a : ArrayForm) (start : ℕ) (marks₀ increments₀ events₀ tails marks increments events : List ℕ) (p : Place) : Type 0 where
+-- The search can begin.
+abbrev pub CanSearch : (a : ArrayForm) (before : List ℕ) (start : ℕ) (marks increments events : List ℕ) → Type 0
+CanSearch a before start marks increments events = ArrayBegins a before start marks increments events
+
+-- At a place, with the elements `before` on the blank: the edges ahead begin with position e, the trailer is the parent of v, and tails and
+-- increments are those that the events so far leave.
+pub record ArrayAt (a : ArrayForm) (before : List ℕ) (start : ℕ) (marks₀ increments₀ events₀ tails marks increments events : List ℕ) (p : Place) : Type 0 where
   pub sound : ArraySound a
   pub long : a .n ≤ length increments₀
   pub h : History
   pub done : List ℕ
   pub s : List Frame
-  pub underway : Underway (arrayGraph a) (a .n + a .m) start h (p .v) done (ahead a (p .v) (p .e)) s marks₀ events₀ marks events (p .progress)
+  pub underway : Underway (arrayGraph a) (a .n + a .m) before start h (p .v) done (ahead a (p .v) (p .e)) s marks₀ events₀ marks events (p .progress)
   pub low : at 0 (a .firsts) (p .v) ≤ p .e
   pub high : p .e ≤ at 0 (a .firsts) (suc (p .v))
   pub trailer : p .f ≡ parent s
@@ -56,14 +61,15 @@ pub record ArrayAt (a : ArrayForm) (start : ℕ) (marks₀ increments₀ events�
   pub bent : tails ≡ tailsLeft a s
 
 pub record SomeArrayAt (n m start : ℕ) (firsts tails marks increments events : List ℕ) (p : Place) : Type 0 where
+  pub before : List ℕ
   pub tails₀ : List ℕ
   pub marks₀ : List ℕ
   pub increments₀ : List ℕ
   pub events₀ : List ℕ
-  pub is : ArrayAt (arrayIn n m firsts tails₀) start marks₀ increments₀ events₀ tails marks increments events p
+  pub is : ArrayAt (arrayIn n m firsts tails₀) before start marks₀ increments₀ events₀ tails marks increments events p
 
 -- It has ended.
-pub record Ended (a : ArrayForm) (start : ℕ) (marks₀ increments₀ events₀ tails marks increments events t : List ℕ) : Type 0 where
-  pub held : Held (a .n + a .m) (arrayWalk a start) marks₀ events₀ marks events t
-  pub increments-left : increments ≡ incrementLeft (arrayGraph a) (arrayWalk a start) increments₀
+pub record Ended (a : ArrayForm) (before : List ℕ) (start : ℕ) (marks₀ increments₀ events₀ tails marks increments events t : List ℕ) : Type 0 where
+  pub held : Held (a .n + a .m) before (arrayWalk a before start) marks₀ events₀ marks events t
+  pub increments-left : increments ≡ incrementLeft (arrayGraph a) (arrayWalk a before start) increments₀
   pub tails-left : tails ≡ a .tails

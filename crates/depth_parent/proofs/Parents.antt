@@ -11,11 +11,11 @@ use borrow.Author.Tests.{eq-eqb, ne-eqb, not-true, not-false}
 use Rattle.lists.specs.Members.{Mem, here, there, memb}
 use Rattle.lists.specs.Words.{at, put, cleared}
 use Rattle.lists.proofs.Tests.{Compared, equal, other, compare}
-use Rattle.lists.proofs.Members.{memb-false}
+use Rattle.lists.proofs.Members.{mem-left, memb-false}
 use Rattle.lists.proofs.Words.{but, put-filled, values-same, at-filled, length-filled, cleared-filled, read-at}
 use Rattle.graphs.specs.Nodes.{Vertex, Edge}
 use Rattle.graphs.specs.Graph.{Graph}
-use Rattle.graphs.specs.Events.{event, label, advance-tree, advance-nontree, retreat-tree, retreat-nontree, scan, same, History, _▸_, labelled}
+use Rattle.graphs.specs.Events.{event, label, advance-tree, advance-nontree, retreat-tree, retreat-nontree, scan, same, History, _▸_, known, labelled}
 use Rattle.graphs.specs.Image.{Image, edgesOf, to, graphOf}
 use Rattle.graphs.specs.Results.{lastTree, entry, parentWord, parentLeft}
 use Rattle.graphs.specs.Claims.{Ready}
@@ -150,7 +150,7 @@ pub record Ahead (g : Image) (e : ℕ) : Type 0 where
   pub edge : Edge (g .n) (g .m) e
   pub leads : Vertex (g .n) (target g e)
 
-module _ {g : Image} {start : ℕ} {marks₀ parents₀ events₀ marks parents events : List ℕ} {p : Place} (A : ParentAt g start marks₀ parents₀ events₀ marks parents events p) where
+module _ {g : Image} {before : List ℕ} {start : ℕ} {marks₀ parents₀ events₀ marks parents events : List ℕ} {p : Place} (A : ParentAt g before start marks₀ parents₀ events₀ marks parents events p) where
   -- The areas keep their lengths.
   place-lengths : (length marks ≡ length marks₀) × ((length parents ≡ length parents₀) × (length events ≡ length events₀))
   place-lengths =
@@ -175,8 +175,8 @@ module _ {g : Image} {start : ℕ} {marks₀ parents₀ events₀ marks parents 
     N : Next (p .e) (A .rest)
     N = next-edge (p .e) (A .rest) (A .next) more
 
-    ahead : Underway (graphOf g) (g .n + g .m) start (A .h) (p .v) (A .done) (p .e ∷ N .later) (A .s) marks₀ events₀ marks events (p .progress)
-    ahead = subst (λ (l : List ℕ). Underway (graphOf g) (g .n + g .m) start (A .h) (p .v) (A .done) l (A .s) marks₀ events₀ marks events (p .progress)) (N .is) (A .underway)
+    ahead : Underway (graphOf g) (g .n + g .m) before start (A .h) (p .v) (A .done) (p .e ∷ N .later) (A .s) marks₀ events₀ marks events (p .progress)
+    ahead = subst (λ (l : List ℕ). Underway (graphOf g) (g .n + g .m) before start (A .h) (p .v) (A .done) l (A .s) marks₀ events₀ marks events (p .progress)) (N .is) (A .underway)
 
     is-target : to g (p .e) ≡ target g (p .e)
     is-target = target-is g (p .e)
@@ -191,7 +191,7 @@ module _ {g : Image} {start : ℕ} {marks₀ parents₀ events₀ marks parents 
     advance-few = moves.ahead-few ahead
 
     -- The mark of its target tells whether that is labelled.
-    mark-test : eqb (getD marks (target g (p .e) - 1) 0) 0 ≡ not (memb (target g (p .e)) (labelled (A .h)))
+    mark-test : eqb (getD marks (target g (p .e) - 1) 0) 0 ≡ not (memb (target g (p .e)) (known before (A .h)))
     mark-test = ap (λ (w : ℕ). eqb w 0) (sym (read-at marks (target g (p .e)))) ∙ written-test (A .underway .areas) (target g (p .e)) (place-ahead .leads .0) (let b = place-ahead .leads in omega arith)
 
     -- It leads to a labelled vertex.
@@ -200,11 +200,11 @@ module _ {g : Image} {start : ℕ} {marks₀ parents₀ events₀ marks parents 
         pub pass-total : b .events ≡ 2 + p .progress .events
         pass-total = moves.pass-total ahead one two
 
-        pub pass-at : (getD marks (target g (p .e) - 1) 0 ≡ 0 → ⊥) → ParentAt g start marks₀ parents₀ events₀ marks parents ev′ (record { v = p .v; e = getD (g .after) (p .e - 1) 0; f = p .f; progress = b })
+        pub pass-at : (getD marks (target g (p .e) - 1) 0 ≡ 0 → ⊥) → ParentAt g before start marks₀ parents₀ events₀ marks parents ev′ (record { v = p .v; e = getD (g .after) (p .e - 1) 0; f = p .f; progress = b })
         pass-at ne =
             let P = ahead .scene .placed in
             let i : History = A .h ▸ event advance-nontree (p .e) (p .v) ▸ event retreat-nontree (p .e) (p .v) in
-            let seen : memb (target g (p .e)) (labelled (A .h)) ≡ true = not-false _ (sym mark-test ∙ ne-eqb (getD marks (target g (p .e) - 1) 0) 0 ne) in
+            let seen : memb (target g (p .e)) (known before (A .h)) ≡ true = not-false _ (sym mark-test ∙ ne-eqb (getD marks (target g (p .e) - 1) 0) 0 ne) in
             record {
               sound = A .sound;
               long = A .long;
@@ -212,7 +212,7 @@ module _ {g : Image} {start : ℕ} {marks₀ parents₀ events₀ marks parents 
               done = p .e ∷ A .done;
               rest = N .later;
               s = A .s;
-              underway = moves.pass-goes ahead one two (ap (λ (x : ℕ). memb x (labelled (A .h))) is-target ∙ seen);
+              underway = moves.pass-goes ahead one two (ap (λ (x : ℕ). memb x (known before (A .h))) is-target ∙ seen);
               entered = entered-same (graphOf g) (A .h) i (A .s) (p .v) (λ y m. refl) (A .entered);
               parents-left = A .parents-left;
               next = next-word (A .sound) (p .v) (p .e) (A .done) (N .later) (P .vertex) (P .list);
@@ -222,10 +222,10 @@ module _ {g : Image} {start : ℕ} {marks₀ parents₀ events₀ marks parents 
     -- It leads to a vertex that is not labelled.
     module _ {a : Progress} {ev : List ℕ} (one : Emits 2 (p .e) (p .v) events (p .progress) ev a) where
       module _ {b : Progress} {mk ev′ : List ℕ} (two : Puts (target g (p .e)) marks ev a mk ev′ b) where
-        pub tree-total : b .events ≡ 2 + p .progress .events
-        tree-total = moves.tree-total ahead one (target g (p .e)) is-target two
+        pub tree-total : getD marks (target g (p .e) - 1) 0 ≡ 0 → b .events ≡ 2 + p .progress .events
+        tree-total z = moves.tree-total ahead one (target g (p .e)) is-target two (not-true _ (sym mark-test ∙ eq-eqb (getD marks (target g (p .e) - 1) 0) 0 z))
 
-        pub tree-at : getD marks (target g (p .e) - 1) 0 ≡ 0 → ParentAt g start marks₀ parents₀ events₀ mk (set parents (target g (p .e) - 1) (p .f)) ev′ (record { v = target g (p .e); e = getD (g .after) (target g (p .e) - 1) 0; f = p .e; progress = b })
+        pub tree-at : getD marks (target g (p .e) - 1) 0 ≡ 0 → ParentAt g before start marks₀ parents₀ events₀ mk (set parents (target g (p .e) - 1) (p .f)) ev′ (record { v = target g (p .e); e = getD (g .after) (target g (p .e) - 1) 0; f = p .e; progress = b })
         unfolding put
         tree-at z =
             let G : Graph = graphOf g in
@@ -233,8 +233,8 @@ module _ {g : Image} {start : ℕ} {marks₀ parents₀ events₀ marks parents 
             let h : History = A .h in
             let i : History = h ▸ event advance-tree (p .e) (p .v) ▸ event label 0 x in
             let hx : Vertex (g .n) x = place-ahead .leads in
-            let unseen : memb x (labelled h) ≡ false = not-true _ (sym mark-test ∙ eq-eqb (getD marks (x - 1) 0) 0 z) in
-            let new : Mem x (labelled h) → ⊥ = memb-false x (labelled h) unseen in
+            let unseen : memb x (known before h) ≡ false = not-true _ (sym mark-test ∙ eq-eqb (getD marks (x - 1) 0) 0 z) in
+            let new : Mem x (labelled h) → ⊥ = λ m. memb-false x (known before h) unseen (mem-left before m) in
             let from : Mem (p .v) (labelled h) = A .underway .scene .seen (p .v) (here refl) in
             record {
               sound = A .sound;
@@ -254,10 +254,10 @@ module _ {g : Image} {start : ℕ} {marks₀ parents₀ events₀ marks parents 
 
   -- No edge is ahead.
   module _ (none : p .e ≡ 0) where
-    done-at : Underway (graphOf g) (g .n + g .m) start (A .h) (p .v) (A .done) [] (A .s) marks₀ events₀ marks events (p .progress)
+    done-at : Underway (graphOf g) (g .n + g .m) before start (A .h) (p .v) (A .done) [] (A .s) marks₀ events₀ marks events (p .progress)
     done-at = go (A .rest) (A .next) (A .underway)
       where
-        go : (rest : List ℕ) → p .e ≡ head0 rest → Underway (graphOf g) (g .n + g .m) start (A .h) (p .v) (A .done) rest (A .s) marks₀ events₀ marks events (p .progress) → Underway (graphOf g) (g .n + g .m) start (A .h) (p .v) (A .done) [] (A .s) marks₀ events₀ marks events (p .progress)
+        go : (rest : List ℕ) → p .e ≡ head0 rest → Underway (graphOf g) (g .n + g .m) before start (A .h) (p .v) (A .done) rest (A .s) marks₀ events₀ marks events (p .progress) → Underway (graphOf g) (g .n + g .m) before start (A .h) (p .v) (A .done) [] (A .s) marks₀ events₀ marks events (p .progress)
         go [] q U = U
         go (y ∷ l) q U = absurd (let e = edge-of (A .sound) (p .v) y (A .done) l (U .scene .placed .vertex) (U .scene .placed .list) in let k : p .e ≡ y = q in omega arith)
 
@@ -270,8 +270,8 @@ module _ {g : Image} {start : ℕ} {marks₀ parents₀ events₀ marks parents 
       abbrev pub back : ℕ
       back = top .vertex
 
-      behind : Underway (graphOf g) (g .n + g .m) start (A .h) (p .v) (A .done) [] (frame back (top .passed) (p .f) (top .ahead) ∷ top .below) marks₀ events₀ marks events (p .progress)
-      behind = subst (λ (s : List Frame). Underway (graphOf g) (g .n + g .m) start (A .h) (p .v) (A .done) [] s marks₀ events₀ marks events (p .progress)) (top .is) done-at
+      behind : Underway (graphOf g) (g .n + g .m) before start (A .h) (p .v) (A .done) [] (frame back (top .passed) (p .f) (top .ahead) ∷ top .below) marks₀ events₀ marks events (p .progress)
+      behind = subst (λ (s : List Frame). Underway (graphOf g) (g .n + g .m) before start (A .h) (p .v) (A .done) [] s marks₀ events₀ marks events (p .progress)) (top .is) done-at
 
       entered-back : Entered (graphOf g) (A .h) (frame back (top .passed) (p .f) (top .ahead) ∷ top .below) (p .v)
       entered-back = subst (λ (s : List Frame). Entered (graphOf g) (A .h) s (p .v)) (top .is) (A .entered)
@@ -317,7 +317,7 @@ module _ {g : Image} {start : ℕ} {marks₀ parents₀ events₀ marks parents 
           pub retreat-total : b .events ≡ 2 + p .progress .events
           retreat-total = moves.back-total behind one two-back
 
-          pub retreat-at : ParentAt g start marks₀ parents₀ events₀ marks parents ev′ (record { v = u; e = getD (g .after) (p .f - 1) 0; f = getD parents (p .v - 1) 0; progress = b })
+          pub retreat-at : ParentAt g before start marks₀ parents₀ events₀ marks parents ev′ (record { v = u; e = getD (g .after) (p .f - 1) 0; f = getD parents (p .v - 1) 0; progress = b })
           retreat-at =
               let G : Graph = graphOf g in
               let h : History = A .h in
@@ -330,7 +330,7 @@ module _ {g : Image} {start : ℕ} {marks₀ parents₀ events₀ marks parents 
                 done = p .f ∷ top .passed;
                 rest = top .ahead;
                 s = top .below;
-                underway = subst (λ (y : ℕ). Underway G (g .n + g .m) start i y (p .f ∷ top .passed) (top .ahead) (top .below) marks₀ events₀ marks ev′ b) (sym is) (moves.back-goes behind one two-back);
+                underway = subst (λ (y : ℕ). Underway G (g .n + g .m) before start i y (p .f ∷ top .passed) (top .ahead) (top .below) marks₀ events₀ marks ev′ b) (sym is) (moves.back-goes behind one two-back);
                 entered = entered-same G h i (top .below) u (λ y m. refl) (subst (λ (y : ℕ). Entered G h (top .below) y) (sym is) (entered-back .1));
                 parents-left = A .parents-left;
                 next = next-word (A .sound) back (p .f) (top .passed) (top .ahead) (P .above .1) (P .above .2);
@@ -339,24 +339,24 @@ module _ {g : Image} {start : ℕ} {marks₀ parents₀ events₀ marks parents 
 
     -- There is no trailer: the start is being scanned.
     module _ (nil : p .f ≡ 0) where
-      bottom : Underway (graphOf g) (g .n + g .m) start (A .h) (p .v) (A .done) [] [] marks₀ events₀ marks events (p .progress)
+      bottom : Underway (graphOf g) (g .n + g .m) before start (A .h) (p .v) (A .done) [] [] marks₀ events₀ marks events (p .progress)
       bottom = go (A .s) (A .trailer) done-at
         where
-          go : (s : List Frame) → p .f ≡ entering s → Underway (graphOf g) (g .n + g .m) start (A .h) (p .v) (A .done) [] s marks₀ events₀ marks events (p .progress) → Underway (graphOf g) (g .n + g .m) start (A .h) (p .v) (A .done) [] [] marks₀ events₀ marks events (p .progress)
+          go : (s : List Frame) → p .f ≡ entering s → Underway (graphOf g) (g .n + g .m) before start (A .h) (p .v) (A .done) [] s marks₀ events₀ marks events (p .progress) → Underway (graphOf g) (g .n + g .m) before start (A .h) (p .v) (A .done) [] [] marks₀ events₀ marks events (p .progress)
           go [] q U = U
           go (frame u du r ru ∷ s) q U = absurd (let a = U .scene .placed .above in let e = edge-of (A .sound) u r du ru (a .1) (a .2) in let k : p .f ≡ r = q in omega arith)
 
       -- The scan of the start is the last event.
-      pub search-ends : {o : Progress} {t ev : List ℕ} → Emits 6 0 start events (p .progress) ev o → t ≡ depthTally o → Ended g start marks₀ parents₀ events₀ marks parents ev t
+      pub search-ends : {o : Progress} {t ev : List ℕ} → Emits 6 0 start events (p .progress) ev o → t ≡ depthTally o → Ended g before start marks₀ parents₀ events₀ marks parents ev t
       search-ends w c = record { held = moves.end-held bottom w c; parents-left = A .parents-left ∙ ap (λ (i : History). parentLeft (graphOf g) i parents₀) (moves.end-is bottom) }
 
 -- ---- the beginning
-module _ {g : Image} {start : ℕ} {marks₀ parents₀ events₀ : List ℕ} (C : CanSearch g start marks₀ parents₀ events₀) where
-  ready : Ready (graphOf g) [] start
-  ready = profile-ready g (C .sound) start (C .start-vertex)
+module _ {g : Image} {before : List ℕ} {start : ℕ} {marks₀ parents₀ events₀ : List ℕ} (C : CanSearch g before start marks₀ parents₀ events₀) where
+  ready : Ready (graphOf g) before start
+  ready = profile-ready g (C .sound) before start (C .start-vertex) (C .listed)
 
-  pub open-at : {marks parents events : List ℕ} {t : Progress} → parents ≡ cleared (min (g .n) (length parents₀)) parents₀ → Starts (g .n + g .m) start marks₀ events₀ marks events t
-      → ParentAt g start marks₀ parents₀ events₀ marks parents events (record { v = start; e = getD (g .after) (start - 1) 0; f = 0; progress = t })
+  pub open-at : {marks parents events : List ℕ} {t : Progress} → parents ≡ cleared (min (g .n) (length parents₀)) parents₀ → Starts (g .n + g .m) before start marks₀ events₀ marks events t
+      → ParentAt g before start marks₀ parents₀ events₀ marks parents events (record { v = start; e = getD (g .after) (start - 1) 0; f = 0; progress = t })
   open-at c w = record {
     sound = C .sound;
     long = C .long;
@@ -374,28 +374,28 @@ module _ {g : Image} {start : ℕ} {marks₀ parents₀ events₀ : List ℕ} (C
 -- ---- from place to place
 -- From one place the search goes to another, whatever the areas were as lent.
 abbrev pub Goes : (g : Image) (start : ℕ) (marks parents events : List ℕ) (p : Place) (marks′ parents′ events′ : List ℕ) (p′ : Place) → Type 0
-Goes g start marks parents events p marks′ parents′ events′ p′ = (marks₀ parents₀ events₀ : List ℕ) → ParentAt g start marks₀ parents₀ events₀ marks parents events p → ParentAt g start marks₀ parents₀ events₀ marks′ parents′ events′ p′
+Goes g start marks parents events p marks′ parents′ events′ p′ = (before marks₀ parents₀ events₀ : List ℕ) → ParentAt g before start marks₀ parents₀ events₀ marks parents events p → ParentAt g before start marks₀ parents₀ events₀ marks′ parents′ events′ p′
 
 module _ {g : Image} {start : ℕ} {marks parents events marks′ parents′ events′ : List ℕ} {p p′ : Place} (S : SomeParentAt g start marks parents events p) (k : Goes g start marks parents events p marks′ parents′ events′ p′) where
   pub goes-some : SomeParentAt g start marks′ parents′ events′ p′
-  goes-some = record { marks₀ = S .marks₀; parents₀ = S .parents₀; events₀ = S .events₀; is = k (S .marks₀) (S .parents₀) (S .events₀) (S .is) }
+  goes-some = record { before = S .before; marks₀ = S .marks₀; parents₀ = S .parents₀; events₀ = S .events₀; is = k (S .before) (S .marks₀) (S .parents₀) (S .events₀) (S .is) }
 
   pub goes-lengths : (length marks′ ≡ length marks) × ((length parents′ ≡ length parents) × (length events′ ≡ length events))
   goes-lengths =
       let a = place-lengths (S .is) in
-      let b = place-lengths (k (S .marks₀) (S .parents₀) (S .events₀) (S .is)) in
+      let b = place-lengths (k (S .before) (S .marks₀) (S .parents₀) (S .events₀) (S .is)) in
       (b .0 ∙ sym (a .0), (b .1 .0 ∙ sym (a .1 .0), b .1 .1 ∙ sym (a .1 .1)))
 
-pub some-at : {g : Image} {start : ℕ} {marks₀ parents₀ events₀ marks parents events : List ℕ} {p : Place} → ParentAt g start marks₀ parents₀ events₀ marks parents events p → SomeParentAt g start marks parents events p
-some-at {marks₀ = marks₀} {parents₀ = parents₀} {events₀ = events₀} A = record { marks₀ = marks₀; parents₀ = parents₀; events₀ = events₀; is = A }
+pub some-at : {g : Image} {before : List ℕ} {start : ℕ} {marks₀ parents₀ events₀ marks parents events : List ℕ} {p : Place} → ParentAt g before start marks₀ parents₀ events₀ marks parents events p → SomeParentAt g start marks parents events p
+some-at {before = before} {marks₀ = marks₀} {parents₀ = parents₀} {events₀ = events₀} A = record { before = before; marks₀ = marks₀; parents₀ = parents₀; events₀ = events₀; is = A }
 
 pub goes-then : {g : Image} {start : ℕ} {marks parents events marks′ parents′ events′ marks″ parents″ events″ : List ℕ} {p p′ p″ : Place} → Goes g start marks parents events p marks′ parents′ events′ p′
     → Goes g start marks′ parents′ events′ p′ marks″ parents″ events″ p″
     → Goes g start marks parents events p marks″ parents″ events″ p″
-goes-then k l marks₀ parents₀ events₀ A = l marks₀ parents₀ events₀ (k marks₀ parents₀ events₀ A)
+goes-then k l before marks₀ parents₀ events₀ A = l before marks₀ parents₀ events₀ (k before marks₀ parents₀ events₀ A)
 
 -- ---- a walk taken
-pub can-search : (g : Image) (start : ℕ) (marks parents events : List ℕ) → walkNumber g start marks events (lent (g .n) parents ∷ []) ≡ 0 → CanSearch g start marks parents events
-can-search g start marks parents events e =
-    let B = begins g start marks events (lent (g .n) parents ∷ []) e in
-    record { sound = B .sound; start-vertex = B .start-vertex; roomy = B .depth-room; long = long (g .n) parents [] (B .own-long) .0 }
+pub can-search : (g : Image) (before : List ℕ) (start : ℕ) (marks parents events : List ℕ) → walkNumber g before start marks events (lent (g .n) parents ∷ []) ≡ 0 → CanSearch g before start marks parents events
+can-search g before start marks parents events e =
+    let B = begins g before start marks events (lent (g .n) parents ∷ []) e in
+    record { sound = B .sound; start-vertex = B .start-vertex; listed = B .listed; roomy = B .depth-room; long = long (g .n) parents [] (B .own-long) .0 }

@@ -9,6 +9,7 @@ use Rattle.graphs.specs.Events.{History}
 use Rattle.graphs.specs.Image.{Image, graphOf}
 use Rattle.graphs.specs.Results.{entry, parentLeft}
 use Rattle.graphs.proofs.Sound.{head0, Sound}
+use Rattle.graphs.proofs.Blanks.{Listed}
 use Rattle.graphs.proofs.Places.{Frame, frame, entering}
 use Rattle.walks.specs.declared.place.Place.{Place}
 use Rattle.walks.specs.Promises.{depthWalk}
@@ -20,34 +21,37 @@ abbrev pub Entered : Graph → History → List Frame → ℕ → Type 0
 Entered G h [] v = entry G h v ≡ (0, 0)
 Entered G h (frame u du r ru ∷ s) v = (entry G h v ≡ (r, u)) × Entered G h s u
 
--- At a place: e is the first edge ahead, the trailer is the tree edge into v, and the parent area is that which the events so far leave.
-pub record ParentAt (g : Image) (start : ℕ) (marks₀ parents₀ events₀ marks parents events : List ℕ) (p : Place) : Type 0 where
+-- At a place, with the elements `before` on the blank: e is the first edge ahead, the trailer is the tree edge into v, and the parent area
+-- is that which the events so far leave.
+pub record ParentAt (g : Image) (before : List ℕ) (start : ℕ) (marks₀ parents₀ events₀ marks parents events : List ℕ) (p : Place) : Type 0 where
   pub sound : Sound g
   pub long : g .n ≤ length parents₀
   pub h : History
   pub done : List ℕ
   pub rest : List ℕ
   pub s : List Frame
-  pub underway : Underway (graphOf g) (g .n + g .m) start h (p .v) done rest s marks₀ events₀ marks events (p .progress)
+  pub underway : Underway (graphOf g) (g .n + g .m) before start h (p .v) done rest s marks₀ events₀ marks events (p .progress)
   pub entered : Entered (graphOf g) h s (p .v)
   pub parents-left : parents ≡ parentLeft (graphOf g) h parents₀
   pub next : p .e ≡ head0 rest
   pub trailer : p .f ≡ entering s
 
 pub record SomeParentAt (g : Image) (start : ℕ) (marks parents events : List ℕ) (p : Place) : Type 0 where
+  pub before : List ℕ
   pub marks₀ : List ℕ
   pub parents₀ : List ℕ
   pub events₀ : List ℕ
-  pub is : ParentAt g start marks₀ parents₀ events₀ marks parents events p
+  pub is : ParentAt g before start marks₀ parents₀ events₀ marks parents events p
 
 -- The search can begin.
-pub record CanSearch (g : Image) (start : ℕ) (marks parents events : List ℕ) : Type 0 where
+pub record CanSearch (g : Image) (before : List ℕ) (start : ℕ) (marks parents events : List ℕ) : Type 0 where
   pub sound : Sound g
   pub start-vertex : Vertex (g .n) start
-  pub roomy : Roomy (g .n + g .m) (depthWalk g start) marks events
+  pub listed : Listed (g .n) before start
+  pub roomy : Roomy (g .n + g .m) (depthWalk g before start) marks events
   pub long : g .n ≤ length parents
 
 -- It has ended.
-pub record Ended (g : Image) (start : ℕ) (marks₀ parents₀ events₀ marks parents events t : List ℕ) : Type 0 where
-  pub held : Held (g .n + g .m) (depthWalk g start) marks₀ events₀ marks events t
-  pub parents-left : parents ≡ parentLeft (graphOf g) (depthWalk g start) parents₀
+pub record Ended (g : Image) (before : List ℕ) (start : ℕ) (marks₀ parents₀ events₀ marks parents events t : List ℕ) : Type 0 where
+  pub held : Held (g .n + g .m) before (depthWalk g before start) marks₀ events₀ marks events t
+  pub parents-left : parents ≡ parentLeft (graphOf g) (depthWalk g before start) parents₀

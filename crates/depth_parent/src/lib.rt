@@ -37,7 +37,7 @@ fn advance(
     p: Place,
 ) -> Place
     requires { ⌜ SomeParentAt (image n m (now after) (now tail)) start (now marks) (now parents) (now events) p × (p .e ≢ 0) ⌝ }
-    ensures at { λ q. ⌜ ((marks₀ parents₀ events₀ : List ℕ) → ParentAt (image n m (now (after .entry)) (now (tail .entry))) start marks₀ parents₀ events₀ (now (marks .entry)) (now (parents .entry)) (now (events .entry)) p → ParentAt (image n m (now (after .entry)) (now (tail .entry))) start marks₀ parents₀ events₀ (now (marks .exit)) (now (parents .exit)) (now (events .exit)) q) ⌝ }
+    ensures at { λ q. ⌜ ((before marks₀ parents₀ events₀ : List ℕ) → ParentAt (image n m (now (after .entry)) (now (tail .entry))) before start marks₀ parents₀ events₀ (now (marks .entry)) (now (parents .entry)) (now (events .entry)) p → ParentAt (image n m (now (after .entry)) (now (tail .entry))) before start marks₀ parents₀ events₀ (now (marks .exit)) (now (parents .exit)) (now (events .exit)) q) ⌝ }
     ensures words { λ q. ⌜ q .progress .events ≡ 2 + p .progress .events ⌝ }
 {
     let t = p.progress;
@@ -83,7 +83,7 @@ fn retreat(
     p: Place,
 ) -> Place
     requires { ⌜ SomeParentAt (image n m (now after) (now tail)) start (now marks) (now parents) (now events) p × (p .e ≡ 0) × (p .f ≢ 0) ⌝ }
-    ensures at { λ q. ⌜ ((marks₀ parents₀ events₀ : List ℕ) → ParentAt (image n m (now (after .entry)) (now (tail .entry))) start marks₀ parents₀ events₀ (now (marks .entry)) (now (parents .entry)) (now (events .entry)) p → ParentAt (image n m (now (after .entry)) (now (tail .entry))) start marks₀ parents₀ events₀ (now (marks .entry)) (now (parents .entry)) (now (events .exit)) q) ⌝ }
+    ensures at { λ q. ⌜ ((before marks₀ parents₀ events₀ : List ℕ) → ParentAt (image n m (now (after .entry)) (now (tail .entry))) before start marks₀ parents₀ events₀ (now (marks .entry)) (now (parents .entry)) (now (events .entry)) p → ParentAt (image n m (now (after .entry)) (now (tail .entry))) before start marks₀ parents₀ events₀ (now (marks .entry)) (now (parents .entry)) (now (events .exit)) q) ⌝ }
     ensures words { λ q. ⌜ q .progress .events ≡ 2 + p .progress .events ⌝ }
 {
     let t = p.progress;
@@ -120,7 +120,7 @@ fn descend(
     p: Place,
 ) -> Place
     requires { ⌜ SomeParentAt (image n m (now after) (now tail)) start (now marks) (now parents) (now events) p ⌝ }
-    ensures at { λ q. ⌜ ((marks₀ parents₀ events₀ : List ℕ) → ParentAt (image n m (now (after .entry)) (now (tail .entry))) start marks₀ parents₀ events₀ (now (marks .entry)) (now (parents .entry)) (now (events .entry)) p → ParentAt (image n m (now (after .entry)) (now (tail .entry))) start marks₀ parents₀ events₀ (now (marks .exit)) (now (parents .exit)) (now (events .exit)) q) ⌝ }
+    ensures at { λ q. ⌜ ((before marks₀ parents₀ events₀ : List ℕ) → ParentAt (image n m (now (after .entry)) (now (tail .entry))) before start marks₀ parents₀ events₀ (now (marks .entry)) (now (parents .entry)) (now (events .entry)) p → ParentAt (image n m (now (after .entry)) (now (tail .entry))) before start marks₀ parents₀ events₀ (now (marks .exit)) (now (parents .exit)) (now (events .exit)) q) ⌝ }
     ensures done { λ q. ⌜ q .e ≡ 0 ⌝ }
     ensures words { λ q. ⌜ p .progress .events ≤ q .progress .events ⌝ }
 {
@@ -144,7 +144,7 @@ fn finish(
     p: Place,
 ) -> Place
     requires { ⌜ SomeParentAt (image n m (now after) (now tail)) start (now marks) (now parents) (now events) p ⌝ }
-    ensures at { λ q. ⌜ ((marks₀ parents₀ events₀ : List ℕ) → ParentAt (image n m (now (after .entry)) (now (tail .entry))) start marks₀ parents₀ events₀ (now (marks .entry)) (now (parents .entry)) (now (events .entry)) p → ParentAt (image n m (now (after .entry)) (now (tail .entry))) start marks₀ parents₀ events₀ (now (marks .exit)) (now (parents .exit)) (now (events .exit)) q) ⌝ }
+    ensures at { λ q. ⌜ ((before marks₀ parents₀ events₀ : List ℕ) → ParentAt (image n m (now (after .entry)) (now (tail .entry))) before start marks₀ parents₀ events₀ (now (marks .entry)) (now (parents .entry)) (now (events .entry)) p → ParentAt (image n m (now (after .entry)) (now (tail .entry))) before start marks₀ parents₀ events₀ (now (marks .exit)) (now (parents .exit)) (now (events .exit)) q) ⌝ }
     ensures done { λ q. ⌜ (q .e ≡ 0) × (q .f ≡ 0) ⌝ }
 {
     let mut q = p;
@@ -157,22 +157,23 @@ fn finish(
     }
 }
 
-// Clears marks and parents, and labels the start.
+// Clears marks, but for the elements already on the blank, and parents, and labels the start.
 fn open(
     n: u16,
     m: u16,
     start: u16,
     after: &[u16],
     tail: &[u16],
+    before: &[u16],
     marks: &mut [u16],
     parents: &mut [u16],
     events: &mut [u16],
 ) -> Place
-    requires { ⌜ CanSearch (image n m (now after) (now tail)) start (now marks) (now parents) (now events) ⌝ }
-    ensures { λ q. ⌜ ParentAt (image n m (now (after .entry)) (now (tail .entry))) start (now (marks .entry)) (now (parents .entry)) (now (events .entry)) (now (marks .exit)) (now (parents .exit)) (now (events .exit)) q ⌝ }
+    requires { ⌜ CanSearch (image n m (now after) (now tail)) (now before) start (now marks) (now parents) (now events) ⌝ }
+    ensures { λ q. ⌜ ParentAt (image n m (now (after .entry)) (now (tail .entry))) (now (before .entry)) start (now (marks .entry)) (now (parents .entry)) (now (events .entry)) (now (marks .exit)) (now (parents .exit)) (now (events .exit)) q ⌝ }
 {
     clear(parents, n as usize);
-    let t = begin(marks, events, n as usize + m as usize, start);
+    let t = begin(marks, events, n as usize + m as usize, before, start);
     let i = start as usize - 1;
     Place {
         v: start,
@@ -189,43 +190,46 @@ fn search(
     start: u16,
     after: &[u16],
     tail: &[u16],
+    before: &[u16],
     marks: &mut [u16],
     parents: &mut [u16],
     events: &mut [u16],
 ) -> [u32; 7]
-    requires { ⌜ CanSearch (image n m (now after) (now tail)) start (now marks) (now parents) (now events) ⌝ }
-    ensures { λ t. ⌜ Ended (image n m (now (after .entry)) (now (tail .entry))) start (now (marks .entry)) (now (parents .entry)) (now (events .entry)) (now (marks .exit)) (now (parents .exit)) (now (events .exit)) t ⌝ }
+    requires { ⌜ CanSearch (image n m (now after) (now tail)) (now before) start (now marks) (now parents) (now events) ⌝ }
+    ensures { λ t. ⌜ Ended (image n m (now (after .entry)) (now (tail .entry))) (now (before .entry)) start (now (marks .entry)) (now (parents .entry)) (now (events .entry)) (now (marks .exit)) (now (parents .exit)) (now (events .exit)) t ⌝ }
 {
-    let p = open(n, m, start, after, tail, marks, parents, events);
+    let p = open(n, m, start, after, tail, before, marks, parents, events);
     let q = finish(n, m, start, after, tail, marks, parents, events, p);
     let t = q.progress;
     let whole = emit(events, 6, 0, start, t);
     tally(whole)
 }
 
-// Depth-first search of a linked image from start, with n parent words. Refused by 1, 2, 3 (all areas), 4, 5, 6, 7.
+// Depth-first search of a linked image from start, with the elements already on the blank and n parent words. Refused by 1, 2, 3 (all
+// areas), 4, 5, 6, 7, 17, 18.
 pub fn dfs_parent(
     n: u16,
     m: u16,
     start: Vertex,
     after: &[u16],
     tail: &[u16],
+    before: &[u16],
     marks: &mut [u16],
     parents: &mut [u16],
     events: &mut [u16],
 ) -> Walked
-    ensures number { λ r. ⌜ r .number ≡ walkNumber (image n m (now (after .entry)) (now (tail .entry))) (start .0) (now (marks .entry)) (now (events .entry)) (lent n (now (parents .entry)) ∷ []) ⌝ }
-    ensures tally { λ r. ⌜ r .tally ≡ tallied (r .number) (depthWalk (image n m (now (after .entry)) (now (tail .entry))) (start .0)) ⌝ }
-    ensures marks { λ r. ⌜ now (marks .exit) ≡ unlessRefused (r .number) (marksLeft (n + m) (depthWalk (image n m (now (after .entry)) (now (tail .entry))) (start .0)) (now (marks .entry))) (now (marks .entry)) ⌝ }
-    ensures parents { λ r. ⌜ now (parents .exit) ≡ unlessRefused (r .number) (parentLeft (graphOf (image n m (now (after .entry)) (now (tail .entry)))) (depthWalk (image n m (now (after .entry)) (now (tail .entry))) (start .0)) (now (parents .entry))) (now (parents .entry)) ⌝ }
-    ensures events { λ r. ⌜ now (events .exit) ≡ unlessRefused (r .number) (eventsLeft (depthWalk (image n m (now (after .entry)) (now (tail .entry))) (start .0)) (now (events .entry))) (now (events .entry)) ⌝ }
+    ensures number { λ r. ⌜ r .number ≡ walkNumber (image n m (now (after .entry)) (now (tail .entry))) (now (before .entry)) (start .0) (now (marks .entry)) (now (events .entry)) (lent n (now (parents .entry)) ∷ []) ⌝ }
+    ensures tally { λ r. ⌜ r .tally ≡ tallied (r .number) (depthWalk (image n m (now (after .entry)) (now (tail .entry))) (now (before .entry)) (start .0)) ⌝ }
+    ensures marks { λ r. ⌜ now (marks .exit) ≡ unlessRefused (r .number) (marksLeft (n + m) (now (before .entry)) (depthWalk (image n m (now (after .entry)) (now (tail .entry))) (now (before .entry)) (start .0)) (now (marks .entry))) (now (marks .entry)) ⌝ }
+    ensures parents { λ r. ⌜ now (parents .exit) ≡ unlessRefused (r .number) (parentLeft (graphOf (image n m (now (after .entry)) (now (tail .entry)))) (depthWalk (image n m (now (after .entry)) (now (tail .entry))) (now (before .entry)) (start .0)) (now (parents .entry))) (now (parents .entry)) ⌝ }
+    ensures events { λ r. ⌜ now (events .exit) ≡ unlessRefused (r .number) (eventsLeft (depthWalk (image n m (now (after .entry)) (now (tail .entry))) (now (before .entry)) (start .0)) (now (events .entry))) (now (events .entry)) ⌝ }
 {
     let long = n as usize <= parents.len();
-    let k = walk_number(n, m, start, after, tail, marks, events, long);
+    let k = walk_number(n, m, start, after, tail, before, marks, events, long);
     if k != 0 {
         return refused(k);
     }
-    let t = search(n, m, start.0, after, tail, marks, parents, events);
+    let t = search(n, m, start.0, after, tail, before, marks, parents, events);
     Walked {
         number: 0,
         tally: t,

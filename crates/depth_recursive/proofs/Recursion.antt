@@ -2,19 +2,19 @@
 -- The events so far, the edges still ahead and the scan make up the search of the vertex.
 use mathlib.Core.Path.{_≡_, refl, sym, ap, _∙_, subst}
 use mathlib.Core.Bool.{Bool, true, false, not}
-use mathlib.Core.List.{List, [], _∷_, append-nil}
+use mathlib.Core.List.{List, [], _∷_}
 use Prim.Native.Nat.{ℕ, suc, _+_, _-_, _*_, _≤_, _<_, min}
 use native.Mathlib.Omega.{arith}
 use lib.Dec.{eqb}
-use lib.ListN.{length, getD}
+use lib.ListN.{length, getD, length-append}
 use borrow.Author.Tests.{eq-eqb, ne-eqb, not-true, not-false}
 use Rattle.lists.specs.Members.{Mem, here, there, memb}
-use Rattle.lists.specs.Words.{at, cleared}
-use Rattle.lists.proofs.Members.{mem-nil, memb-false, pigeonhole}
+use Rattle.lists.specs.Words.{at}
+use Rattle.lists.proofs.Members.{mem-right, memb-false, pigeonhole}
 use Rattle.lists.proofs.Words.{read-at}
 use Rattle.graphs.specs.Nodes.{Vertex, Edge}
-use Rattle.graphs.specs.Events.{Kind, event, label, advance-tree, advance-nontree, retreat-nontree, retreat-tree, scan, code, same, History, _▸_, labelled}
-use Rattle.graphs.specs.Results.{marksLeft, eventsLeft}
+use Rattle.graphs.specs.Events.{Kind, event, label, advance-tree, advance-nontree, retreat-nontree, retreat-tree, scan, code, same, History, _▸_, known, labelled}
+use Rattle.graphs.specs.Results.{marksFirst, marksLeft, eventsLeft}
 use Rattle.graphs.specs.Search.{recorder, cross, walkEdges, depthFirst}
 use Rattle.graphs.specs.Image.{Image, edgesOf, to, graphOf}
 use Rattle.graphs.specs.Refusals.{unlessRefused}
@@ -31,7 +31,7 @@ use Rattle.walks.specs.Progress.{noProgress, depthTally, Written}
 use Rattle.depth_recursive.specs.Recursive.{searched, crossed, Searching, CanSearch, Traversing, CanTraverse}
 use Rattle.walks.proofs.Reading.{target, target-is}
 use Rattle.walks.proofs.Begins.{begins, zeros-tallied}
-use Rattle.walks.proofs.Storing.{all-cleared}
+use Rattle.walks.proofs.Storing.{all-first}
 use Rattle.walks.proofs.Progress.{Emits, Puts, written-test, written-lengths, emitted, labelling, written-none, whole-tally}
 
 -- Room for all events is room for some of them.
@@ -40,23 +40,23 @@ room-for l R = record { long-marks = R .long-marks; room = omega (arith, R .room
 
 -- ---- one edge
 -- Traversing an edge whose flag is known.
-abbrev crossing : Image → ℕ → ℕ → Bool → History → History
-crossing g r u b h = cross (recorder []) (graphOf g) (deep (graphOf g)) u r b h
+abbrev crossing : Image → List ℕ → ℕ → ℕ → Bool → History → History
+crossing g before r u b h = cross (recorder before) (graphOf g) (deep (graphOf g) before) u r b h
 
 -- Two events, at least.
-two : (g : Image) (r u : ℕ) (b : Bool) (h : History) → suc (suc (length h)) ≤ length (crossing g r u b h)
-two g r u true h = omega arith
-two g r u false h = let k = suffix-length (search-adds (graphOf g) [] (g .n) (to g r) (h ▸ event advance-tree r u)) in omega arith
+two : (g : Image) (before : List ℕ) (r u : ℕ) (b : Bool) (h : History) → suc (suc (length h)) ≤ length (crossing g before r u b h)
+two g before r u true h = omega arith
+two g before r u false h = let k = suffix-length (search-adds (graphOf g) before (g .n) (to g r) (h ▸ event advance-tree r u)) in omega arith
 
 -- The labels stay labels, and none is lost.
-crossing-labels : (g : Image) → Sound g → (r u : ℕ) → Vertex (g .n) (to g r) → (h : History) → Labels (g .n) (labelled h) → (b : Bool) → memb (to g r) (labelled h) ≡ b → Labels (g .n) (labelled (crossing g r u b h)) × (length (labelled h) ≤ length (labelled (crossing g r u b h)))
-crossing-labels g S r u hx h L true e = (L, omega arith)
-crossing-labels g S r u hx h L false e =
+crossing-labels : (g : Image) (before : List ℕ) → Sound g → (r u : ℕ) → Vertex (g .n) (to g r) → (h : History) → Labels (g .n) (known before h) → (b : Bool) → memb (to g r) (known before h) ≡ b → Labels (g .n) (known before (crossing g before r u b h)) × (length (labelled h) ≤ length (labelled (crossing g before r u b h)))
+crossing-labels g before S r u hx h L true e = (L, omega arith)
+crossing-labels g before S r u hx h L false e =
     let i : History = h ▸ event advance-tree r u in
-    let j : History = deep (graphOf g) (to g r) i in
+    let j : History = deep (graphOf g) before (to g r) i in
     let C = graph-closed g S in
-    let q = search-labels (graphOf g) [] C (g .n) (to g r) i (can-search (graphOf g) C (to g r) i hx (memb-false (to g r) (labelled h) e) L) in
-    (subst (Labels (g .n)) (append-nil (labelled j)) (q .grown .labels), omega (arith, q .grown .longer, ap length (append-nil (labelled h)), ap length (append-nil (labelled j))))
+    let q = search-labels (graphOf g) before C (g .n) (to g r) i (can-search (graphOf g) before C (to g r) i hx (memb-false (to g r) (known before h) e) L) in
+    (q .grown .labels, omega (arith, q .grown .longer, length-append (labelled h) before, length-append (labelled j) before))
 
 -- What the code reads, before it knows the flag.
 pub record Reads (g : Image) (r : ℕ) (marks : List ℕ) : Type 0 where
@@ -68,15 +68,15 @@ pub record Reads (g : Image) (r : ℕ) (marks : List ℕ) : Type 0 where
   pub long-tail : g .m ≤ length (g .tail)
   pub long-marks : g .n + g .m ≤ length marks
 
-module _ {g : Image} {r u : ℕ} {h : History} {marks₀ events₀ marks events : List ℕ} {t : Progress} (T : Traversing g r u h marks₀ events₀ marks events t) where
+module _ {g : Image} {before : List ℕ} {r u : ℕ} {h : History} {marks₀ events₀ marks events : List ℕ} {t : Progress} (T : Traversing g before r u h marks₀ events₀ marks events t) where
   edge-of : Edge (g .n) (g .m) r
   edge-of = T .sound .edge u r (T .vertex) (T .listed)
 
   leads : Vertex (g .n) (to g r)
   leads = T .sound .target r edge-of
 
-  two-more : suc (suc (length h)) ≤ length (crossed g r u h)
-  two-more = two g r u (memb (to g r) (labelled h)) h
+  two-more : suc (suc (length h)) ≤ length (crossed g before r u h)
+  two-more = two g before r u (memb (to g r) (known before h)) h
 
   edge-lengths : (length marks ≡ length marks₀) × (length events ≡ length events₀)
   edge-lengths = written-lengths (T .areas) (T .roomy) (omega (arith, two-more))
@@ -93,71 +93,71 @@ module _ {g : Image} {r u : ℕ} {h : History} {marks₀ events₀ marks events 
   }
 
   -- The mark that the code tests.
-  mark-is : eqb (getD marks (target g r - 1) 0) 0 ≡ not (memb (to g r) (labelled h))
+  mark-is : eqb (getD marks (target g r - 1) 0) 0 ≡ not (memb (to g r) (known before h))
   mark-is =
       ap (λ (w : ℕ). eqb w 0) (sym (read-at marks (target g r)) ∙ ap (at 0 marks) (sym (target-is g r)))
       ∙ written-test (T .areas) (to g r) (leads .0) (let a = leads .1 in omega arith)
 
   -- One event more.
   module _ {events′ : List ℕ} {t′ : Progress} where
-    edge-emitted : (j : Kind) → same label j ≡ false → Emits (code j) r u events t events′ t′ → Written (g .n + g .m) (h ▸ event j r u) marks₀ events₀ marks events′ t′
+    edge-emitted : (j : Kind) → same label j ≡ false → Emits (code j) r u events t events′ t′ → Written (g .n + g .m) before (h ▸ event j r u) marks₀ events₀ marks events′ t′
     edge-emitted j q e = emitted (T .areas) (T .roomy) (omega (arith, two-more)) j r u q e
 
     -- It leads to a labelled vertex.
     module _ (mark : getD marks (target g r - 1) 0 ≡ 0 → ⊥) (e : Emits 3 r u events t events′ t′) where
-      seen : memb (to g r) (labelled h) ≡ true
-      seen = not-false (memb (to g r) (labelled h)) (sym mark-is ∙ ne-eqb (getD marks (target g r - 1) 0) 0 mark)
+      seen : memb (to g r) (known before h) ≡ true
+      seen = not-false (memb (to g r) (known before h)) (sym mark-is ∙ ne-eqb (getD marks (target g r - 1) 0) 0 mark)
 
-      passes : crossed g r u h ≡ (h ▸ event advance-nontree r u ▸ event retreat-nontree r u)
-      passes = ap (λ (f : Bool). crossing g r u f h) seen
+      passes : crossed g before r u h ≡ (h ▸ event advance-nontree r u ▸ event retreat-nontree r u)
+      passes = ap (λ (f : Bool). crossing g before r u f h) seen
 
-      passing : Written (g .n + g .m) (h ▸ event advance-nontree r u) marks₀ events₀ marks events′ t′
+      passing : Written (g .n + g .m) before (h ▸ event advance-nontree r u) marks₀ events₀ marks events′ t′
       passing = edge-emitted advance-nontree refl e
 
-      pub pass-held : {events″ : List ℕ} {t″ : Progress} → Emits 4 r u events′ t′ events″ t″ → Written (g .n + g .m) (crossed g r u h) marks₀ events₀ marks events″ t″
-      pass-held {events″} {t″} f = subst (λ (i : History). Written (g .n + g .m) i marks₀ events₀ marks events″ t″) (sym passes) (emitted passing (T .roomy) (omega (arith, two-more)) retreat-nontree r u refl f)
+      pub pass-held : {events″ : List ℕ} {t″ : Progress} → Emits 4 r u events′ t′ events″ t″ → Written (g .n + g .m) before (crossed g before r u h) marks₀ events₀ marks events″ t″
+      pass-held {events″} {t″} f = subst (λ (i : History). Written (g .n + g .m) before i marks₀ events₀ marks events″ t″) (sym passes) (emitted passing (T .roomy) (omega (arith, two-more)) retreat-nontree r u refl f)
 
     -- It leads to an unlabelled vertex.
     module _ (mark : getD marks (target g r - 1) 0 ≡ 0) (e : Emits 2 r u events t events′ t′) where
-      fresh : memb (to g r) (labelled h) ≡ false
-      fresh = not-true (memb (to g r) (labelled h)) (sym mark-is ∙ eq-eqb (getD marks (target g r - 1) 0) 0 mark)
+      fresh : memb (to g r) (known before h) ≡ false
+      fresh = not-true (memb (to g r) (known before h)) (sym mark-is ∙ eq-eqb (getD marks (target g r - 1) 0) 0 mark)
 
-      returning : crossed g r u h ≡ (searched g (target g r) (h ▸ event advance-tree r u) ▸ event retreat-tree r u)
-      returning = ap (λ (f : Bool). crossing g r u f h) fresh ∙ ap (λ (x : ℕ). deep (graphOf g) x (h ▸ event advance-tree r u) ▸ event retreat-tree r u) (target-is g r)
+      returning : crossed g before r u h ≡ (searched g before (target g r) (h ▸ event advance-tree r u) ▸ event retreat-tree r u)
+      returning = ap (λ (f : Bool). crossing g before r u f h) fresh ∙ ap (λ (x : ℕ). deep (graphOf g) before x (h ▸ event advance-tree r u) ▸ event retreat-tree r u) (target-is g r)
 
-      advanced : Written (g .n + g .m) (h ▸ event advance-tree r u) marks₀ events₀ marks events′ t′
+      advanced : Written (g .n + g .m) before (h ▸ event advance-tree r u) marks₀ events₀ marks events′ t′
       advanced = edge-emitted advance-tree refl e
 
       -- Its search can begin.
-      pub tree-search : Searching g (target g r) (h ▸ event advance-tree r u) marks₀ events₀ marks events′ t′
+      pub tree-search : Searching g before (target g r) (h ▸ event advance-tree r u) marks₀ events₀ marks events′ t′
       tree-search = record {
         sound = T .sound;
         vertex = subst (Vertex (g .n)) (target-is g r) leads;
-        fresh = λ m. memb-false (to g r) (labelled h) fresh (subst (λ (x : ℕ). Mem x (labelled h)) (sym (target-is g r)) m);
+        fresh = λ m. memb-false (to g r) (known before h) fresh (subst (λ (x : ℕ). Mem x (known before h)) (sym (target-is g r)) m);
         labels = T .labels;
         areas = advanced;
         roomy = room-for (omega (arith, ap length returning)) (T .roomy);
       }
 
       pub tree-can : CanSearch g (target g r) marks events′ t′
-      tree-can = record { h = h ▸ event advance-tree r u; marks₀ = marks₀; events₀ = events₀; searching = tree-search }
+      tree-can = record { before = before; h = h ▸ event advance-tree r u; marks₀ = marks₀; events₀ = events₀; searching = tree-search }
 
       -- No vertex was labelled on the way to it.
       pub tree-falls : 2 * (g .n - t′ .labels) < 2 * (g .n - t .labels) + 1
       tree-falls = omega (arith, advanced .labels, T .areas .labels)
 
-      module _ {marks″ events″ : List ℕ} {t″ : Progress} (D : Written (g .n + g .m) (searched g (target g r) (h ▸ event advance-tree r u)) marks₀ events₀ marks″ events″ t″) where
+      module _ {marks″ events″ : List ℕ} {t″ : Progress} (D : Written (g .n + g .m) before (searched g before (target g r) (h ▸ event advance-tree r u)) marks₀ events₀ marks″ events″ t″) where
         pub tree-lengths : (length marks″ ≡ length marks) × (length events″ ≡ length events)
         tree-lengths =
             let a = edge-lengths in
             let b = written-lengths D (T .roomy) (omega (arith, ap length returning)) in (b .0 ∙ sym (a .0), b .1 ∙ sym (a .1))
 
-        pub tree-held : {events‴ : List ℕ} {t‴ : Progress} → Emits 5 r u events″ t″ events‴ t‴ → Written (g .n + g .m) (crossed g r u h) marks₀ events₀ marks″ events‴ t‴
-        tree-held {events‴} {t‴} f = subst (λ (i : History). Written (g .n + g .m) i marks₀ events₀ marks″ events‴ t‴) (sym returning) (emitted D (T .roomy) (omega (arith, ap length returning)) retreat-tree r u refl f)
+        pub tree-held : {events‴ : List ℕ} {t‴ : Progress} → Emits 5 r u events″ t″ events‴ t‴ → Written (g .n + g .m) before (crossed g before r u h) marks₀ events₀ marks″ events‴ t‴
+        tree-held {events‴} {t‴} f = subst (λ (i : History). Written (g .n + g .m) before i marks₀ events₀ marks″ events‴ t‴) (sym returning) (emitted D (T .roomy) (omega (arith, ap length returning)) retreat-tree r u refl f)
 
 -- ---- one vertex
 -- u is labelled, and its edges `rest` are still to be traversed, r the next of them.
-pub record Underway (g : Image) (u : ℕ) (h : History) (marks₀ events₀ marks events : List ℕ) (t : Progress) (r : ℕ) : Type 0 where
+pub record Underway (g : Image) (before : List ℕ) (u : ℕ) (h : History) (marks₀ events₀ marks events : List ℕ) (t : Progress) (r : ℕ) : Type 0 where
   pub sound : Sound g
   pub vertex : Vertex (g .n) u
   pub so-far : History
@@ -166,11 +166,11 @@ pub record Underway (g : Image) (u : ℕ) (h : History) (marks₀ events₀ mark
   pub links : Linked (g .after) rest
   pub listed : (x : ℕ) → Mem x rest → Mem x (edgesOf g u)
   pub short : length rest ≤ g .m
-  pub labels : Labels (g .n) (labelled so-far)
+  pub labels : Labels (g .n) (known before so-far)
   pub more : length (labelled h) < length (labelled so-far)
-  pub areas : Written (g .n + g .m) so-far marks₀ events₀ marks events t
-  pub roomy : Roomy (g .n + g .m) (searched g u h) marks₀ events₀
-  pub future : (walk (graphOf g) u rest so-far ▸ event scan 0 u) ≡ searched g u h
+  pub areas : Written (g .n + g .m) before so-far marks₀ events₀ marks events t
+  pub roomy : Roomy (g .n + g .m) (searched g before u h) marks₀ events₀
+  pub future : (walk (graphOf g) before u rest so-far ▸ event scan 0 u) ≡ searched g before u h
 
 -- r is the next edge.
 record Next (r : ℕ) (rest : List ℕ) : Type 0 where
@@ -181,13 +181,13 @@ next-edge : (r : ℕ) (rest : List ℕ) → r ≡ head0 rest → (r ≡ 0 → �
 next-edge r [] e ne = absurd (ne e)
 next-edge r (y ∷ l) e ne = record { later = l; is = ap (λ (z : ℕ). z ∷ l) (sym e) }
 
-module _ {g : Image} {u : ℕ} {h : History} {marks₀ events₀ marks events : List ℕ} {t : Progress} (S : Searching g u h marks₀ events₀ marks events t) where
-  unrolled : searched g u h ≡ (walk (graphOf g) u (edgesOf g u) (h ▸ event label 0 u) ▸ event scan 0 u)
-  unrolled = deep-unroll (graphOf g) (graph-closed g (S .sound)) u h (S .vertex) (S .fresh) (S .labels)
+module _ {g : Image} {before : List ℕ} {u : ℕ} {h : History} {marks₀ events₀ marks events : List ℕ} {t : Progress} (S : Searching g before u h marks₀ events₀ marks events t) where
+  unrolled : searched g before u h ≡ (walk (graphOf g) before u (edgesOf g u) (h ▸ event label 0 u) ▸ event scan 0 u)
+  unrolled = deep-unroll (graphOf g) before (graph-closed g (S .sound)) u h (S .vertex) (S .fresh) (S .labels)
 
   -- Two events, at least: label and scan.
-  search-room : suc (suc (length h)) ≤ length (searched g u h)
-  search-room = omega (arith, ap length unrolled, suffix-length (edges-add (graphOf g) u (edgesOf g u) (h ▸ event label 0 u)))
+  search-room : suc (suc (length h)) ≤ length (searched g before u h)
+  search-room = omega (arith, ap length unrolled, suffix-length (edges-add (graphOf g) before u (edgesOf g u) (h ▸ event label 0 u)))
 
   pub search-lengths : (length marks ≡ length marks₀) × (length events ≡ length events₀)
   search-lengths = written-lengths (S .areas) (S .roomy) (omega (arith, search-room))
@@ -197,7 +197,7 @@ module _ {g : Image} {u : ℕ} {h : History} {marks₀ events₀ marks events : 
   search-reads = omega (arith, S .vertex, S .sound .few-vertices, S .sound .long-after)
 
   -- u is labelled.
-  pub search-begins : {marks′ events′ : List ℕ} {t′ : Progress} → Puts u marks events t marks′ events′ t′ → Underway g u h marks₀ events₀ marks′ events′ t′ (getD (g .after) (u - 1) 0)
+  pub search-begins : {marks′ events′ : List ℕ} {t′ : Progress} → Puts u marks events t marks′ events′ t′ → Underway g before u h marks₀ events₀ marks′ events′ t′ (getD (g .after) (u - 1) 0)
   search-begins e = record {
     sound = S .sound;
     vertex = S .vertex;
@@ -207,42 +207,42 @@ module _ {g : Image} {u : ℕ} {h : History} {marks₀ events₀ marks events : 
     links = S .sound .linked u (S .vertex);
     listed = λ x m. m;
     short = pigeonhole (g .n) (g .m) (edgesOf g u) (S .sound .once u (S .vertex)) (λ r m. S .sound .edge u r (S .vertex) m);
-    labels = label-ok (g .n) u (labelled h) (S .vertex) (S .fresh) (S .labels);
+    labels = label-ok (g .n) u (known before h) (S .vertex) (S .fresh) (S .labels);
     more = omega arith;
-    areas = labelling (S .areas) (S .roomy) (omega (arith, search-room)) u (S .vertex .0) (omega (arith, S .vertex .1)) e;
+    areas = labelling (S .areas) (S .roomy) (omega (arith, search-room)) u (λ m. S .fresh (mem-right (labelled h) m)) (S .vertex .0) (omega (arith, S .vertex .1)) e;
     roomy = S .roomy;
     future = sym unrolled;
   }
 
   -- Its label leaves fewer vertices unlabelled.
-  pub search-falls : {marks′ events′ : List ℕ} {t′ : Progress} {r : ℕ} → Underway g u h marks₀ events₀ marks′ events′ t′ r → 2 * (g .n - t′ .labels) + 1 < 2 * (g .n - t .labels)
+  pub search-falls : {marks′ events′ : List ℕ} {t′ : Progress} {r : ℕ} → Underway g before u h marks₀ events₀ marks′ events′ t′ r → 2 * (g .n - t′ .labels) + 1 < 2 * (g .n - t .labels)
   search-falls U =
-      let few : suc (length (labelled h)) ≤ g .n = labels-few (g .n) (u ∷ labelled h) (label-ok (g .n) u (labelled h) (S .vertex) (S .fresh) (S .labels)) in
-      omega (arith, S .areas .labels, U .areas .labels, U .more)
+      let few = labels-few (g .n) (u ∷ known before h) (label-ok (g .n) u (known before h) (S .vertex) (S .fresh) (S .labels)) in
+      omega (arith, length-append (labelled h) before, S .areas .labels, U .areas .labels, U .more)
 
 -- What the loop over the list of u keeps, from its first turn to the next, whatever was lent.
 abbrev pub Loop : Image → ℕ → (marks₁ events₁ : List ℕ) → Progress → ℕ → (marks events : List ℕ) → Progress → ℕ → Type 0
-Loop g u marks₁ events₁ t₁ r₁ marks events t r = (h : History) (marks₀ events₀ : List ℕ) → Underway g u h marks₀ events₀ marks₁ events₁ t₁ r₁ → Underway g u h marks₀ events₀ marks events t r
+Loop g u marks₁ events₁ t₁ r₁ marks events t r = (before : List ℕ) (h : History) (marks₀ events₀ : List ℕ) → Underway g before u h marks₀ events₀ marks₁ events₁ t₁ r₁ → Underway g before u h marks₀ events₀ marks events t r
 
 -- So it has come to a turn.
-pub way-at : {g : Image} {u : ℕ} {marks events marks₁ events₁ marks′ events′ : List ℕ} {t t₁ t′ : Progress} {r : ℕ} (P : CanSearch g u marks events t) → Puts u marks events t marks₁ events₁ t₁ → Loop g u marks₁ events₁ t₁ (getD (g .after) (u - 1) 0) marks′ events′ t′ r → Underway g u (P .h) (P .marks₀) (P .events₀) marks′ events′ t′ r
-way-at P e I = I (P .h) (P .marks₀) (P .events₀) (search-begins (P .searching) e)
+pub way-at : {g : Image} {u : ℕ} {marks events marks₁ events₁ marks′ events′ : List ℕ} {t t₁ t′ : Progress} {r : ℕ} (P : CanSearch g u marks events t) → Puts u marks events t marks₁ events₁ t₁ → Loop g u marks₁ events₁ t₁ (getD (g .after) (u - 1) 0) marks′ events′ t′ r → Underway g (P .before) u (P .h) (P .marks₀) (P .events₀) marks′ events′ t′ r
+way-at P e I = I (P .before) (P .h) (P .marks₀) (P .events₀) (search-begins (P .searching) e)
 
-module _ {g : Image} {u : ℕ} {h : History} {marks₀ events₀ marks events : List ℕ} {t : Progress} {r : ℕ} (U : Underway g u h marks₀ events₀ marks events t r) where
-  scan-room : suc (length (U .so-far)) ≤ length (searched g u h)
-  scan-room = omega (arith, ap length (U .future), suffix-length (edges-add (graphOf g) u (U .rest) (U .so-far)))
+module _ {g : Image} {before : List ℕ} {u : ℕ} {h : History} {marks₀ events₀ marks events : List ℕ} {t : Progress} {r : ℕ} (U : Underway g before u h marks₀ events₀ marks events t r) where
+  scan-room : suc (length (U .so-far)) ≤ length (searched g before u h)
+  scan-room = omega (arith, ap length (U .future), suffix-length (edges-add (graphOf g) before u (U .rest) (U .so-far)))
 
   pub way-lengths : (length marks ≡ length marks₀) × (length events ≡ length events₀)
   way-lengths = written-lengths (U .areas) (U .roomy) (omega (arith, scan-room))
 
   -- The scan ends the search.
 
-  pub way-ends : r ≡ 0 → {events′ : List ℕ} {t′ : Progress} → Emits 6 0 u events t events′ t′ → Written (g .n + g .m) (searched g u h) marks₀ events₀ marks events′ t′
+  pub way-ends : r ≡ 0 → {events′ : List ℕ} {t′ : Progress} → Emits 6 0 u events t events′ t′ → Written (g .n + g .m) before (searched g before u h) marks₀ events₀ marks events′ t′
   unfolding walkEdges
   way-ends e {events′} {t′} f = go (U .rest) (U .next) (U .listed) (U .future)
     where
-      go : (rest : List ℕ) → r ≡ head0 rest → ((x : ℕ) → Mem x rest → Mem x (edgesOf g u)) → (walk (graphOf g) u rest (U .so-far) ▸ event scan 0 u) ≡ searched g u h → Written (g .n + g .m) (searched g u h) marks₀ events₀ marks events′ t′
-      go [] n m w = subst (λ (i : History). Written (g .n + g .m) i marks₀ events₀ marks events′ t′) w (emitted (U .areas) (U .roomy) scan-room scan 0 u refl f)
+      go : (rest : List ℕ) → r ≡ head0 rest → ((x : ℕ) → Mem x rest → Mem x (edgesOf g u)) → (walk (graphOf g) before u rest (U .so-far) ▸ event scan 0 u) ≡ searched g before u h → Written (g .n + g .m) before (searched g before u h) marks₀ events₀ marks events′ t′
+      go [] n m w = subst (λ (i : History). Written (g .n + g .m) before i marks₀ events₀ marks events′ t′) w (emitted (U .areas) (U .roomy) scan-room scan 0 u refl f)
       go (y ∷ l) n m w = absurd (let z = U .sound .edge u y (U .vertex) (m y (here refl)) in let k : r ≡ y = n in omega arith)
 
   module _ (more : r ≡ 0 → ⊥) where
@@ -250,15 +250,14 @@ module _ {g : Image} {u : ℕ} {h : History} {marks₀ events₀ marks events : 
     N = next-edge r (U .rest) (U .next) more
 
     -- What is left once r is traversed.
-    ahead : (walk (graphOf g) u (N .later) (crossed g r u (U .so-far)) ▸ event scan 0 u) ≡ searched g u h
+    ahead : (walk (graphOf g) before u (N .later) (crossed g before r u (U .so-far)) ▸ event scan 0 u) ≡ searched g before u h
     unfolding walkEdges
     ahead =
-        ap (λ (f : Bool). walk (graphOf g) u (N .later) (crossing g r u f (U .so-far)) ▸ event scan 0 u) (ap (memb (to g r)) (sym (append-nil (labelled (U .so-far)))))
-        ∙ ap (λ (l : List ℕ). walk (graphOf g) u l (U .so-far) ▸ event scan 0 u) (sym (N .is))
+        ap (λ (l : List ℕ). walk (graphOf g) before u l (U .so-far) ▸ event scan 0 u) (sym (N .is))
         ∙ U .future
 
-    crossed-room : suc (length (crossed g r u (U .so-far))) ≤ length (searched g u h)
-    crossed-room = omega (arith, ap length ahead, suffix-length (edges-add (graphOf g) u (N .later) (crossed g r u (U .so-far))))
+    crossed-room : suc (length (crossed g before r u (U .so-far))) ≤ length (searched g before u h)
+    crossed-room = omega (arith, ap length ahead, suffix-length (edges-add (graphOf g) before u (N .later) (crossed g before r u (U .so-far))))
 
     -- Behind it there is one edge less.
     links : Linked (g .after) (r ∷ N .later)
@@ -270,21 +269,21 @@ module _ {g : Image} {u : ℕ} {h : History} {marks₀ events₀ marks events : 
         subst (λ (x : ℕ). edgesLeft (g .m) (g .after) x < edgesLeft (g .m) (g .after) r) (read-at (g .after) r) (left-falls (g .m) (g .after) r (N .later) links positive (omega (arith, U .short, ap length (N .is))))
 
     -- The next edge can be traversed.
-    pub way-edge : Traversing g r u (U .so-far) marks₀ events₀ marks events t
+    pub way-edge : Traversing g before r u (U .so-far) marks₀ events₀ marks events t
     way-edge = record { sound = U .sound; vertex = U .vertex; listed = U .listed r (subst (Mem r) (sym (N .is)) (here refl)); labels = U .labels; areas = U .areas; roomy = room-for (omega (arith, crossed-room)) (U .roomy) }
 
     pub way-can : CanTraverse g r u marks events t
-    way-can = record { h = U .so-far; marks₀ = marks₀; events₀ = events₀; traversing = way-edge }
+    way-can = record { before = before; h = U .so-far; marks₀ = marks₀; events₀ = events₀; traversing = way-edge }
 
-    module _ {marks′ events′ : List ℕ} {t′ : Progress} (D : Written (g .n + g .m) (crossed g r u (U .so-far)) marks₀ events₀ marks′ events′ t′) where
+    module _ {marks′ events′ : List ℕ} {t′ : Progress} (D : Written (g .n + g .m) before (crossed g before r u (U .so-far)) marks₀ events₀ marks′ events′ t′) where
       -- It was.
-      pub way-turns : Underway g u h marks₀ events₀ marks′ events′ t′ (getD (g .after) (r - 1) 0)
+      pub way-turns : Underway g before u h marks₀ events₀ marks′ events′ t′ (getD (g .after) (r - 1) 0)
       way-turns =
-          let L = crossing-labels g (U .sound) r u (leads way-edge) (U .so-far) (U .labels) (memb (to g r) (labelled (U .so-far))) refl in
+          let L = crossing-labels g before (U .sound) r u (leads way-edge) (U .so-far) (U .labels) (memb (to g r) (known before (U .so-far))) refl in
           record {
             sound = U .sound;
             vertex = U .vertex;
-            so-far = crossed g r u (U .so-far);
+            so-far = crossed g before r u (U .so-far);
             rest = N .later;
             next = sym (read-at (g .after) r) ∙ links .0;
             links = links .1;
@@ -299,41 +298,41 @@ module _ {g : Image} {u : ℕ} {h : History} {marks₀ events₀ marks events : 
 
 -- ---- the walk
 -- What the walker promises of its answer, and of the areas written.
-abbrev Leaves : Image → ℕ → (marks events marks′ events′ : List ℕ) (k : ℕ) → List ℕ → Type 0
-Leaves g start marks events marks′ events′ k t =
-    (k ≡ walkNumber g start marks events [])
-    × ((t ≡ tallied k (depthWalk g start))
-    × ((marks′ ≡ unlessRefused k (marksLeft (g .n + g .m) (depthWalk g start) marks) marks)
-    × (events′ ≡ unlessRefused k (eventsLeft (depthWalk g start) events) events)))
+abbrev Leaves : Image → List ℕ → ℕ → (marks events marks′ events′ : List ℕ) (k : ℕ) → List ℕ → Type 0
+Leaves g before start marks events marks′ events′ k t =
+    (k ≡ walkNumber g before start marks events [])
+    × ((t ≡ tallied k (depthWalk g before start))
+    × ((marks′ ≡ unlessRefused k (marksLeft (g .n + g .m) before (depthWalk g before start) marks) marks)
+    × (events′ ≡ unlessRefused k (eventsLeft (depthWalk g before start) events) events)))
 
 -- A walk refused leaves all as it was.
-pub walk-refused : (g : Image) (start : ℕ) (marks events : List ℕ) {j k : ℕ} {t : List ℕ} → k ≡ j → j ≡ walkNumber g start marks events [] → (j ≡ 0 → ⊥) → t ≡ noEvents → Leaves g start marks events marks events k t
-walk-refused g start marks events {j} {k} e f ne z =
+pub walk-refused : (g : Image) (before : List ℕ) (start : ℕ) (marks events : List ℕ) {j k : ℕ} {t : List ℕ} → k ≡ j → j ≡ walkNumber g before start marks events [] → (j ≡ 0 → ⊥) → t ≡ noEvents → Leaves g before start marks events marks events k t
+walk-refused g before start marks events {j} {k} e f ne z =
     let no : k ≡ 0 → ⊥ = λ q. ne (sym e ∙ q) in
-    (e ∙ f, (z ∙ zeros-tallied k (depthWalk g start) no, (refused k (marksLeft (g .n + g .m) (depthWalk g start) marks) marks no, refused k (eventsLeft (depthWalk g start) events) events no)))
+    (e ∙ f, (z ∙ zeros-tallied k (depthWalk g before start) no, (refused k (marksLeft (g .n + g .m) before (depthWalk g before start) marks) marks no, refused k (eventsLeft (depthWalk g before start) events) events no)))
 
 -- A walk taken.
-module _ (g : Image) (start : ℕ) (marks events : List ℕ) {k : ℕ} (f : k ≡ walkNumber g start marks events []) (z : k ≡ 0) where
-  taken : walkNumber g start marks events [] ≡ 0
+module _ (g : Image) (before : List ℕ) (start : ℕ) (marks events : List ℕ) {k : ℕ} (f : k ≡ walkNumber g before start marks events []) (z : k ≡ 0) where
+  taken : walkNumber g before start marks events [] ≡ 0
   taken = sym f ∙ z
 
-  pub walk-begins : {marks′ : List ℕ} → marks′ ≡ cleared (min (g .n + g .m) (length marks)) marks → Searching g start [] marks events marks′ events noProgress
+  pub walk-begins : {marks′ : List ℕ} → marks′ ≡ marksFirst (min (g .n + g .m) (length marks)) before marks → Searching g before start [] marks events marks′ events noProgress
   unfolding depthFirst
   walk-begins c =
-      let B = begins g start marks events [] taken in
-      let E = written-none (g .n + g .m) marks events in
+      let B = begins g before start marks events [] taken in
+      let E = written-none (g .n + g .m) before marks events in
       record {
         sound = B .sound;
         vertex = B .start-vertex;
-        fresh = λ m. mem-nil m;
-        labels = record { once = tt; all = λ x m. absurd (mem-nil m) };
-        areas = record { marked = c ∙ all-cleared (g .n + g .m) marks (B .long-marks) ∙ E .marked; written = E .written; made = E .made; labels = E .labels };
+        fresh = B .listed .start-fresh;
+        labels = record { once = B .listed .once; all = B .listed .vertices };
+        areas = record { marked = c ∙ all-first (g .n + g .m) before marks (B .long-marks) ∙ E .marked; written = E .written; made = E .made; labels = E .labels };
         roomy = B .depth-room;
       }
 
   -- The search of the start is the walk.
-  pub walk-ends : {marks′ events′ t : List ℕ} {p : Progress} → Written (g .n + g .m) (searched g start []) marks events marks′ events′ p → t ≡ depthTally p → Leaves g start marks events marks′ events′ 0 t
+  pub walk-ends : {marks′ events′ t : List ℕ} {p : Progress} → Written (g .n + g .m) before (searched g before start []) marks events marks′ events′ p → t ≡ depthTally p → Leaves g before start marks events marks′ events′ 0 t
   unfolding depthFirst
   walk-ends W e =
-      let B = begins g start marks events [] taken in
-      (sym taken, (e ∙ whole-tally (profile-ready g (B .sound) start (B .start-vertex)) W (B .depth-room .few), (W .marked, W .written)))
+      let B = begins g before start marks events [] taken in
+      (sym taken, (e ∙ whole-tally (profile-ready g (B .sound) before start (B .start-vertex) (B .listed)) W (B .depth-room .few), (W .marked, W .written)))

@@ -6,11 +6,11 @@
 use images::Edge;
 use images::Vertex;
 use walks::Walked;
-use walks::clear;
 use walks::depth::Progress;
 use walks::depth::emit;
 use walks::depth::label;
 use walks::depth::tally;
+use walks::mark_blanks;
 use walks::refused;
 use walks::walk_number;
 ghost use mathlib.Core.Path.{_≡_};
@@ -36,7 +36,7 @@ fn search_vertex(
     progress: Progress,
 ) -> Progress
     requires { ⌜ CanSearch (image n m (now after) (now tail)) (u .0) (now marks) (now events) progress ⌝ }
-    ensures { λ t. ⌜ ((h : History) (marks₀ events₀ : List ℕ) → Searching (image n m (now (after .entry)) (now (tail .entry))) (u .0) h marks₀ events₀ (now (marks .entry)) (now (events .entry)) progress → Written (n + m) (searched (image n m (now (after .entry)) (now (tail .entry))) (u .0) h) marks₀ events₀ (now (marks .exit)) (now (events .exit)) t) ⌝ }
+    ensures { λ t. ⌜ ((before : List ℕ) (h : History) (marks₀ events₀ : List ℕ) → Searching (image n m (now (after .entry)) (now (tail .entry))) before (u .0) h marks₀ events₀ (now (marks .entry)) (now (events .entry)) progress → Written (n + m) before (searched (image n m (now (after .entry)) (now (tail .entry))) before (u .0) h) marks₀ events₀ (now (marks .exit)) (now (events .exit)) t) ⌝ }
 {
     let v = u.0;
     let mut t = label(marks, events, v, progress);
@@ -64,7 +64,7 @@ fn traverse_edge(
     progress: Progress,
 ) -> Progress
     requires { ⌜ CanTraverse (image n m (now after) (now tail)) (r .0) (u .0) (now marks) (now events) progress ⌝ }
-    ensures { λ t. ⌜ ((h : History) (marks₀ events₀ : List ℕ) → Traversing (image n m (now (after .entry)) (now (tail .entry))) (r .0) (u .0) h marks₀ events₀ (now (marks .entry)) (now (events .entry)) progress → Written (n + m) (crossed (image n m (now (after .entry)) (now (tail .entry))) (r .0) (u .0) h) marks₀ events₀ (now (marks .exit)) (now (events .exit)) t) ⌝ }
+    ensures { λ t. ⌜ ((before : List ℕ) (h : History) (marks₀ events₀ : List ℕ) → Traversing (image n m (now (after .entry)) (now (tail .entry))) before (r .0) (u .0) h marks₀ events₀ (now (marks .entry)) (now (events .entry)) progress → Written (n + m) before (crossed (image n m (now (after .entry)) (now (tail .entry))) before (r .0) (u .0) h) marks₀ events₀ (now (marks .exit)) (now (events .exit)) t) ⌝ }
 {
     let e = r.0;
     let from = u.0;
@@ -81,26 +81,28 @@ fn traverse_edge(
     }
 }
 
-// Depth-first search of a linked image from start. Refused by 1, 2, 3 (all areas), 4, 5, 6, 7.
+// Depth-first search of a linked image from start, with the elements already on the blank. Refused by 1, 2, 3 (all areas), 4, 5, 6, 7, 17,
+// 18.
 pub fn dfs_recursive(
     n: u16,
     m: u16,
     start: Vertex,
     after: &[u16],
     tail: &[u16],
+    before: &[u16],
     marks: &mut [u16],
     events: &mut [u16],
 ) -> Walked
-    ensures number { λ r. ⌜ r .number ≡ walkNumber (image n m (now (after .entry)) (now (tail .entry))) (start .0) (now (marks .entry)) (now (events .entry)) [] ⌝ }
-    ensures tally { λ r. ⌜ r .tally ≡ tallied (r .number) (depthWalk (image n m (now (after .entry)) (now (tail .entry))) (start .0)) ⌝ }
-    ensures marks { λ r. ⌜ now (marks .exit) ≡ unlessRefused (r .number) (marksLeft (n + m) (depthWalk (image n m (now (after .entry)) (now (tail .entry))) (start .0)) (now (marks .entry))) (now (marks .entry)) ⌝ }
-    ensures events { λ r. ⌜ now (events .exit) ≡ unlessRefused (r .number) (eventsLeft (depthWalk (image n m (now (after .entry)) (now (tail .entry))) (start .0)) (now (events .entry))) (now (events .entry)) ⌝ }
+    ensures number { λ r. ⌜ r .number ≡ walkNumber (image n m (now (after .entry)) (now (tail .entry))) (now (before .entry)) (start .0) (now (marks .entry)) (now (events .entry)) [] ⌝ }
+    ensures tally { λ r. ⌜ r .tally ≡ tallied (r .number) (depthWalk (image n m (now (after .entry)) (now (tail .entry))) (now (before .entry)) (start .0)) ⌝ }
+    ensures marks { λ r. ⌜ now (marks .exit) ≡ unlessRefused (r .number) (marksLeft (n + m) (now (before .entry)) (depthWalk (image n m (now (after .entry)) (now (tail .entry))) (now (before .entry)) (start .0)) (now (marks .entry))) (now (marks .entry)) ⌝ }
+    ensures events { λ r. ⌜ now (events .exit) ≡ unlessRefused (r .number) (eventsLeft (depthWalk (image n m (now (after .entry)) (now (tail .entry))) (now (before .entry)) (start .0)) (now (events .entry))) (now (events .entry)) ⌝ }
 {
-    let k = walk_number(n, m, start, after, tail, marks, events, true);
+    let k = walk_number(n, m, start, after, tail, before, marks, events, true);
     if k != 0 {
         return refused(k);
     }
-    clear(marks, n as usize + m as usize);
+    mark_blanks(marks, n as usize + m as usize, before);
     let none = Progress {
         events: 0,
         labels: 0,

@@ -4,20 +4,48 @@ use mathlib.Core.Path.{_≡_, refl, sym, ap, _∙_}
 use mathlib.Core.Logic.{_≢_}
 use mathlib.Core.Bool.{Bool, true, false, cond, _&&_}
 use mathlib.Core.List.{List, [], _∷_}
-use Prim.Native.Nat.{ℕ, _+_, _-_, _*_, _≤_, _<_, min}
+use Prim.Native.Nat.{ℕ, suc, _+_, _-_, _*_, _≤_, _<_}
 use native.Mathlib.Omega.{arith}
 use lib.Dec.{eqb}
 use lib.ListN.{length, getD, set}
 use borrow.Author.Tests.{eq-eqb, ne-eqb, le-leb, lt-leb}
-use Rattle.lists.specs.Words.{at, put, pasted, cleared}
-use Rattle.lists.proofs.Words.{read-past, pasted-none, at-other}
+use Rattle.lists.specs.Words.{at, put, pasted}
+use Rattle.lists.proofs.Words.{read-past, pasted-none, at-other, read-at, length-filled, filled-next, filled-ahead}
 use Rattle.lists.proofs.Tests.{and-true, both}
 use Rattle.graphs.specs.Nodes.{isEdge, isLink, isNode}
+use Rattle.graphs.specs.Results.{restMark, marksRest}
 use Rattle.graphs.proofs.Nodes.{edge-is}
 use Rattle.folding.specs.Machine.{Config, relink, retreat, finish, undo-tree, undo-open, rollingBack, relinked, scannedMarks, target, closed, upward, fits, enact}
-use Rattle.walks.proofs.Storing.{all-cleared}
 use Rattle.folded.specs.Steps.{Attempt, out, made, trying, upwardIn}
 use Rattle.folded.proofs.Stores.{store-past, unfit-left, fit-made}
+
+-- ---- marks
+-- At the end of a roll-back: the first i of n marks are done.
+pub record Resting (n i : ℕ) (marks left : List ℕ) : Type 0 where
+  pub so-far : left ≡ marksRest i marks
+  pub within : i ≤ n
+  pub long : n ≤ length marks
+
+pub rest-length : {n i : ℕ} {marks left : List ℕ} → Resting n i marks left → length left ≡ length marks
+rest-length {n} {i} {marks} R = ap length (R .so-far) ∙ length-filled (λ x. restMark (at 0 marks x)) i marks (omega (arith, R .within, R .long))
+
+rest-next : (marks : List ℕ) (i : ℕ) → i < length marks → set (marksRest i marks) i (restMark (getD (marksRest i marks) i 0)) ≡ marksRest (i + 1) marks
+rest-next marks i h =
+    let f : ℕ → ℕ = λ x. restMark (at 0 marks x) in
+    let s : suc i - 1 ≡ i = omega arith in
+    let n : suc i ≡ i + 1 = omega arith in
+    let word : getD (marksRest i marks) i 0 ≡ at 0 marks (suc i) = filled-ahead f i marks h ∙ sym (read-at marks (suc i) ∙ ap (λ (j : ℕ). getD marks j 0) s) in
+    ap (λ (x : ℕ). set (marksRest i marks) i (restMark x)) word ∙ filled-next f i marks h ∙ ap (λ (k : ℕ). marksRest k marks) n
+
+pub rest-more : {n i : ℕ} {marks left : List ℕ} → Resting n i marks left → i < n → {mark : ℕ} → mark ≡ restMark (getD left i 0) → Resting n (i + 1) marks (set left i mark)
+rest-more {n} {i} {marks} {left} R h e = record {
+  so-far = ap (set left i) e ∙ ap (λ (l : List ℕ). set l i (restMark (getD l i 0))) (R .so-far) ∙ rest-next marks i (omega (arith, R .long));
+  within = omega arith;
+  long = R .long;
+}
+
+pub rest-all : {n i : ℕ} {marks left : List ℕ} → Resting n i marks left → n ≤ i → left ≡ marksRest n marks
+rest-all {n} {i} {marks} R h = let e : i ≡ n = omega (arith, R .within) in R .so-far ∙ ap (λ (k : ℕ). marksRest k marks) e
 
 -- ---- tests
 fails-first : {a : Bool} (b : Bool) → a ≡ false → (a && b) ≡ false
@@ -116,16 +144,16 @@ module _ (w : Config) (k : ℕ) (area : List ℕ) where
   unfolding fits enact put
   finish-made h q p = (λ i. done (stored w (w .v) (w .e) (w .f) 3 (closed w) (w .tail) (q i)) (k + 1) (p i)) ∙ sym (fit-made w finish k area (eq-eqb (w .v) (w .start) h))
 
-  -- The start left: the marks of the vertices become 0.
+  -- The start left: the marks of the vertices become 0, but 65,535 stays.
   pub undo-open-out : w .v ≢ w .start → out w k area ≡ trying w undo-open k area
   unfolding fits
   undo-open-out h = sym (unfit-left w undo-open k area (ne-eqb (w .v) (w .start) h))
 
-  pub undo-open-made : {left : List ℕ} → w .v ≡ w .start → w .n ≤ length (w .marks) → left ≡ cleared (min (w .n) (length (w .marks))) (w .marks)
+  pub undo-open-made : {left : List ℕ} → w .v ≡ w .start → left ≡ marksRest (w .n) (w .marks)
       → done (stored w (w .v) (w .e) (w .f) 5 (set (w .after) (w .v - 1) (w .e)) (w .tail) left) k area ≡ trying w undo-open k area
   unfolding fits enact put
-  undo-open-made h l p =
-      ap (λ (x : List ℕ). done (stored w (w .v) (w .e) (w .f) 5 (set (w .after) (w .v - 1) (w .e)) (w .tail) x) k area) (p ∙ all-cleared (w .n) (w .marks) l)
+  undo-open-made h p =
+      ap (λ (x : List ℕ). done (stored w (w .v) (w .e) (w .f) 5 (set (w .after) (w .v - 1) (w .e)) (w .tail) x) k area) p
       ∙ silent (enact w undo-open .config)
       ∙ sym (fit-made w undo-open k area (eq-eqb (w .v) (w .start) h))
 

@@ -9,12 +9,12 @@ use images::Edge;
 use images::Vertex;
 use images::is_link;
 use states::State;
-use walks::clear;
 ghost use mathlib.Core.Path.{_≡_};
 ghost use mathlib.Core.List.{List};
 ghost use Prim.Native.Nat.{ℕ, _+_, _*_, _≤_, _<_};
 ghost use lib.ListN.{length};
 ghost use Rattle.lists.specs.Words.{at, put};
+ghost use Rattle.graphs.specs.Results.{restMark, marksRest};
 ghost use Rattle.folding.specs.Machine.{scanMark, relink, retreat, finish, undo-tree, undo-open};
 ghost use Rattle.states.specs.Answers.{configOf};
 ghost use Rattle.folded.specs.Steps.{Ready, tried, trying, upwardIn};
@@ -212,7 +212,30 @@ pub(crate) fn undo_tree(s: State, after: &mut [u16], tail: &mut [u16], made: usi
     }
 }
 
-// Leaves the start, rolling back: the marks of the n vertices become 0.
+// What the end of a roll-back leaves in a mark: 65,535 stays, that of an element already on the blank, and any other becomes 0.
+fn rested(mark: u16) -> u16
+    ensures { λ r. ⌜ r ≡ restMark mark ⌝ }
+{
+    if mark == 65535 {
+        return 65535;
+    }
+    0
+}
+
+// The marks of the n vertices at the end of a roll-back.
+fn rest_marks(marks: &mut [u16], n: usize)
+    requires { ⌜ n ≤ length (now marks) ⌝ }
+    ensures { λ t. ⌜ now (marks .exit) ≡ marksRest n (now (marks .entry)) ⌝ }
+{
+    let mut i: usize = 0;
+    while i < n {
+        let mark = rested(marks[i]);
+        marks[i] = mark;
+        i += 1;
+    }
+}
+
+// Leaves the start, rolling back: the marks of the n vertices become 0, but 65,535 stays.
 pub(crate) fn undo_open(s: State, after: &mut [u16], marks: &mut [u16], made: usize) -> Tried
     requires { ⌜ (0 < s .v .0) × (s .v .0 ≤ length (now after)) × (s .n ≤ length (now marks)) ⌝ }
     ensures { λ r. ⌜ ((tail area : List ℕ) → tried r (now (after .exit)) tail (now (marks .exit)) area ≡ trying (configOf s (now (after .entry)) tail (now (marks .entry))) undo-open made area) ⌝ }
@@ -223,7 +246,7 @@ pub(crate) fn undo_open(s: State, after: &mut [u16], marks: &mut [u16], made: us
     }
     let i = v as usize - 1;
     after[i] = s.e.0;
-    clear(marks, s.n as usize);
+    rest_marks(marks, s.n as usize);
     let start = s.start;
     let at = s.v;
     let link = s.e;

@@ -70,10 +70,14 @@ fn tree(
     }
 }
 
-// Circular, once an edge was met that leads to a vertex with this mark: 1 where that is labelled and not yet scanned.
+// Circular, once an edge was met that leads to a vertex with this mark: 1 where that is labelled and not yet scanned, and is not one on
+// the blank, whose mark is the largest.
 fn circled(mark: u16, circular: u16) -> u16
     ensures { λ r. ⌜ r ≡ cond (unscanned mark) 1 circular ⌝ }
 {
+    if mark == 65535 {
+        return circular;
+    }
     if mark >= 32768 {
         return 1;
     }

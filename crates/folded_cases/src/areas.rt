@@ -8,7 +8,7 @@ pub(crate) const SPAN: usize = 5410;
 
 pub(crate) const WIDE: usize = 54100;
 
-pub(crate) type Desk = [u16; 167710];
+pub(crate) type Desk = [u16; 178530];
 
 // What the calls are lent, events last, and the links as loaded.
 pub(crate) const AFTER: usize = 0;
@@ -30,7 +30,7 @@ pub(crate) const PLACES: usize = 16;
 
 pub(crate) const FOUND: usize = 17;
 
-pub(crate) const LIST: usize = 21;
+pub(crate) const LIST: usize = 23;
 
 // A script; what a step has stored so far; the words of a case that are no area, below.
 pub(crate) const SCRIPT: usize = 18;
@@ -38,6 +38,11 @@ pub(crate) const SCRIPT: usize = 18;
 pub(crate) const STORED: usize = 19;
 
 pub(crate) const CASE: usize = 20;
+
+// The list of the elements already on the blank, as lent; and the marks from before the start is labelled: 65,535 for these, else 0.
+pub(crate) const BEFORE: usize = 21;
+
+pub(crate) const BLANK: usize = 22;
 
 // The colours of the search by a stack, while no step is made; the paths of a small profile, before there is a script.
 pub(crate) const COLOURS: usize = 19;
@@ -81,53 +86,63 @@ pub(crate) const LABELS: usize = 15;
 
 pub(crate) const CIRCLE: usize = 16;
 
-// How many words are noted of a step. What the second implementation answers last. All words so far are 0 at the start of a case.
+// How many words are noted of a step. What the second implementation answers last.
 pub(crate) const KEPT: usize = 17;
 
 pub(crate) const ANSWER: usize = 18;
 
+// How many words the list has of the elements already on the blank, and of which kind it is. All words so far are 0 at the start of a case.
+pub(crate) const BEFORE_WORDS: usize = 19;
+
+pub(crate) const KIND: usize = 20;
+
 // The seed; the length that each of four areas is lent at; the budget.
-pub(crate) const SEED: usize = 19;
+pub(crate) const SEED: usize = 21;
 
-pub(crate) const LENGTHS: usize = 20;
+pub(crate) const LENGTHS: usize = 22;
 
-pub(crate) const BUDGET: usize = 24;
+pub(crate) const BUDGET: usize = 26;
 
 // The steps and the events that the second implementation answers.
-pub(crate) const STEPS: usize = 25;
+pub(crate) const STEPS: usize = 27;
 
-pub(crate) const MADE: usize = 26;
+pub(crate) const MADE: usize = 28;
 
 // How many words an area has, a tenth of those for events; whether something differs; the event words and the words of a script.
-pub(crate) const ROOM: usize = 27;
+pub(crate) const ROOM: usize = 29;
 
-pub(crate) const DIFFERS: usize = 28;
+pub(crate) const DIFFERS: usize = 30;
 
-pub(crate) const WHOLE: usize = 29;
+pub(crate) const WHOLE: usize = 31;
 
-pub(crate) const SCRIPTED: usize = 30;
+pub(crate) const SCRIPTED: usize = 32;
 
 // The panel's figure: how often 65,536, and the rest.
-pub(crate) const HIGH: usize = 31;
+pub(crate) const HIGH: usize = 33;
 
-pub(crate) const LOW: usize = 32;
+pub(crate) const LOW: usize = 34;
 
 // 1 where a vertex that is reached has a path to itself; where an edge was met, by the events so far, to a vertex not yet scanned.
-pub(crate) const CLOSED: usize = 33;
+pub(crate) const CLOSED: usize = 35;
 
-pub(crate) const MET: usize = 34;
+pub(crate) const MET: usize = 36;
+
+// How many words of the list are crossed off; 1 where paths keep to vertices that are not on it.
+pub(crate) const CROSSED: usize = 37;
+
+pub(crate) const OFF: usize = 38;
 
 // What an area for events holds before a case, in every word.
 pub(crate) const UNTOUCHED: u16 = 60001;
 
 // Word i of an area of the desk.
 pub(crate) fn get_at(d: &Desk, area: usize, i: usize) -> u16 {
-    if i < WIDE { d[area % 22 * SPAN + i] } else { 0 }
+    if i < WIDE { d[area % 24 * SPAN + i] } else { 0 }
 }
 
 pub(crate) fn put_at(d: &mut Desk, area: usize, i: usize, w: u16) {
     if i < WIDE {
-        d[area % 22 * SPAN + i] = w;
+        d[area % 24 * SPAN + i] = w;
     }
 }
 
@@ -195,8 +210,20 @@ fn span(d: &[u16], start: usize, end: usize) -> &[u16] {
 
 // An area of the desk.
 pub(crate) fn whole(d: &Desk, area: usize) -> &[u16] {
-    let start = area % 22 * SPAN;
+    let start = area % 24 * SPAN;
     span(d, start, start + SPAN)
+}
+
+// The list of the elements already on the blank.
+pub(crate) fn before_of(d: &Desk) -> &[u16] {
+    let start = BEFORE * SPAN;
+    span(d, start, start + said(d, BEFORE_WORDS) as usize)
+}
+
+// Puts a word behind that list.
+pub(crate) fn append(d: &mut Desk, w: u16) {
+    put_at(d, BEFORE, said(d, BEFORE_WORDS) as usize, w);
+    raise(d, BEFORE_WORDS, 1);
 }
 
 fn get(a: &[u16], i: usize) -> u16 {
@@ -209,14 +236,19 @@ fn room_of(d: &Desk, area: usize) -> usize {
     if area == EVENTS { k * 10 } else { k }
 }
 
-// Notes where the words differ from those of an area of the desk.
-pub(crate) fn note_words(d: &mut Desk, area: usize, a: &[u16]) {
-    let top = room_of(d, area);
+// Notes where the first `top` words differ from those of an area of the desk.
+pub(crate) fn note_first(d: &mut Desk, area: usize, a: &[u16], top: usize) {
     let mut i: usize = 0;
     while i < top {
         note(d, get(a, i) != get_at(d, area, i));
         i += 1;
     }
+}
+
+// Notes where the words of a case differ from those of an area of the desk.
+pub(crate) fn note_words(d: &mut Desk, area: usize, a: &[u16]) {
+    let top = room_of(d, area);
+    note_first(d, area, a, top);
 }
 
 // The words of an area from one place to another.

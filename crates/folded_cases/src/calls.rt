@@ -7,6 +7,8 @@ use crate::areas::Desk;
 use crate::areas::E;
 use crate::areas::EVENTS;
 use crate::areas::F;
+use crate::areas::LOADED;
+use crate::areas::LOADED_TAIL;
 use crate::areas::M;
 use crate::areas::MARKS;
 use crate::areas::N;
@@ -17,9 +19,11 @@ use crate::areas::SCRIPTED;
 use crate::areas::START;
 use crate::areas::TAIL;
 use crate::areas::V;
+use crate::areas::before_of;
 use crate::areas::get_at;
 use crate::areas::loaded;
 use crate::areas::said;
+use crate::areas::whole;
 use crate::second::ENDED;
 use crate::second::OPEN;
 use crate::second::REPLAY;
@@ -82,6 +86,7 @@ fn replay(
         start,
         after,
         tail,
+        before_of(d),
         marks,
         events,
         part,
@@ -101,7 +106,7 @@ fn call(
         return replay(d, after, tail, marks, events);
     }
     if k == OPEN {
-        return walkers::open(s.n, s.m, s.start, after, tail, marks, events);
+        return walkers::open(s.n, s.m, s.start, after, tail, before_of(d), marks, events);
     }
     if k == STEP {
         return walkers::step(s, after, tail, marks, events);
@@ -130,6 +135,24 @@ pub(crate) fn call_lent(
     )
 }
 
+// The number of the recursive search, over the links as loaded and with the same list.
+pub(crate) fn search_lent(d: &Desk, marks: &mut [u16], events: &mut [u16]) -> u16 {
+    let start = Vertex(said(d, START));
+    let after = whole(d, LOADED);
+    let tail = whole(d, LOADED_TAIL);
+    let w = walkers::dfs_recursive(
+        said(d, N),
+        said(d, M),
+        start,
+        after,
+        tail,
+        before_of(d),
+        marks,
+        events,
+    );
+    w.number
+}
+
 // An answer as a number: 0 where the call is taken, the reason of a run, or the number of document 01.
 pub(crate) fn answer_number(a: Answer) -> u16 {
     match a {
@@ -147,11 +170,12 @@ fn reason_number(why: Reason) -> u16 {
     }
 }
 
-// 15 for what is no number of a refusal.
+// 22 for what is no number of a refusal.
 fn refusal_number(k: u16) -> u16 {
     match k {
         1..=11 => k,
-        _ => 15,
+        17..=18 => k,
+        _ => 22,
     }
 }
 

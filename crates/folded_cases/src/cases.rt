@@ -29,8 +29,12 @@ use crate::areas::nodes;
 use crate::areas::raise;
 use crate::areas::said;
 use crate::areas::say;
+use crate::blanks::damage_list;
+use crate::blanks::draw_kind;
+use crate::blanks::make_list;
 use crate::circles::note_circle;
 use crate::compare::compare;
+use crate::compare::compare_lines;
 use crate::drawn::damage;
 use crate::drawn::drawn;
 use crate::drawn::shorten_one;
@@ -43,9 +47,11 @@ use crate::second::ORDER;
 use crate::second::REPLAY;
 use crate::second::RUN;
 use crate::second::STEP;
+use crate::second::cross_all;
 use crate::second::read_call;
 use crate::tally::note;
 use crate::turns::BACK;
+use crate::turns::BLANKS;
 use crate::turns::DRAWN;
 use crate::turns::EDGES;
 use crate::turns::FAULTS;
@@ -62,33 +68,40 @@ use crate::turns::each;
 // A case with areas of this many words. Those of events, ten times as many, are untouched; the others are as the case before left them.
 pub(crate) fn clear(d: &mut Desk, room: u16, seed: u16) {
     let words = room % 5411 * 10;
-    each(d, ZEROS + CASE, 19);
+    each(d, ZEROS + CASE, 21);
     each(d, EVENTS, words as usize);
     say(d, ROOM, room);
     say(d, WHOLE, words);
     say(d, SEED, seed);
 }
 
-fn size(d: &mut Desk, n: u16, m: u16, start: u16) {
+pub(crate) fn size(d: &mut Desk, n: u16, m: u16, start: u16) {
     say(d, N, n);
     say(d, M, m);
     say(d, START, start);
     each(d, LENT, 4);
 }
 
-// Makes a profile, its linked image and the search of it. Each area is lent longer than an opening needs by three words.
+// Notes how the links are loaded, and searches them off the list on the desk.
+pub(crate) fn load_search(d: &mut Desk) {
+    each(d, LOADS, nodes(d));
+    cross_all(d);
+    search(d);
+}
+
+// Makes a profile, its linked image, its list and the search of it. Each area is lent longer than an opening needs by three words.
 fn make(d: &mut Desk, n: u16, m: u16, start: u16) {
     size(d, n, m, start);
-    let top = nodes(d);
-    each(d, ZEROS + AFTER, top);
+    each(d, ZEROS + AFTER, nodes(d));
     each(d, EDGES, m as usize);
-    each(d, LOADS, top);
-    search(d);
+    make_list(d);
+    load_search(d);
 }
 
 // A small profile: the example, one vertex and no edge, or by chance; of the rising family with edges enough to share vertices.
 fn make_small(d: &mut Desk, seed: u16) {
     clear(d, 32, seed);
+    draw_kind(d);
     if seed / 1000 == EXAMPLE {
         return make(d, 3, 4, 1);
     }
@@ -142,8 +155,9 @@ fn note_back(d: &mut Desk) {
     each(d, LISTED, said(d, BASE) as usize);
 }
 
-// The end of a search: all events, and as many steps as events less one for each vertex.
+// The end of a search: what the recursive search leaves too, all events, and as many steps as events less one for each vertex.
 fn note_end(d: &mut Desk) {
+    compare_lines(d);
     note_back(d);
     note_pair(d, BASE, WORDS);
     note_pair(d, CIRCULAR, CIRCLE);
@@ -151,16 +165,16 @@ fn note_end(d: &mut Desk) {
     note(d, said(d, TOTAL) != said(d, WORDS) / 3);
 }
 
-// The end of a roll-back after the first call: no marks, and at most half as many steps as there are events.
+// The end of a roll-back after the first call: the marks of elements already on the blank, and at most half as many steps as there are events.
 fn note_withdrawn(d: &mut Desk) {
-    each(d, ZEROS + FOUND, nodes(d));
+    each(d, BLANKS + FOUND, nodes(d));
     note_back(d);
     let steps = less(said(d, TOTAL), get_at(d, SCRIPT, 1));
     note(d, said(d, WORDS) / 6 < steps);
 }
 
 // The script on the desk, after which the search has ended or is withdrawn.
-fn finish(d: &mut Desk, top: usize) {
+pub(crate) fn finish(d: &mut Desk, top: usize) {
     perform(d, top);
     match said(d, PHASE) {
         3 => note_end(d),
@@ -171,8 +185,10 @@ fn finish(d: &mut Desk, top: usize) {
 
 // The example with every set of faults, in four ways.
 pub(crate) fn faulty_case(d: &mut Desk, i: u16) {
-    make_next(d, EXAMPLE, i);
-    each(d, FAULTS, 7);
+    clear(d, 32, EXAMPLE * 1000);
+    make(d, 3, 4, 1);
+    say(d, SEED, i);
+    each(d, FAULTS, 9);
     compare(d);
 }
 
@@ -181,6 +197,16 @@ pub(crate) fn damaged_case(d: &mut Desk, i: u16) {
     make_next(d, i, i);
     damage(d);
     shorten_one(d);
+    compare(d);
+}
+
+// Damaged lists of elements already on the blank, now and then of a damaged image.
+pub(crate) fn blanked_case(d: &mut Desk, i: u16) {
+    make_next(d, i, i);
+    damage_list(d);
+    if drawn(d, 9015, 8) == 0 {
+        damage(d);
+    }
     compare(d);
 }
 
@@ -240,10 +266,13 @@ fn write_long(d: &mut Desk, k: u16) {
     }
 }
 
-// Long profiles of each family but the last.
+// Long profiles of each family but the last, without a list of elements already on the blank, and with one.
 pub(crate) fn long_case(d: &mut Desk, i: u16) {
-    let k = i / 9;
-    clear(d, 5410, i % 9 * 1000 + k);
+    let k = i / 9 % 6;
+    clear(d, 5410, i % 9 * 1000 + i / 9);
+    if 54 <= i {
+        draw_kind(d);
+    }
     make_long(d, k);
     compare(d);
     if said(d, ANSWER) == 0 {

@@ -1,18 +1,24 @@
-// Circles of a small profile, by closure: which vertices have a path of one edge or more to which.
+// Circles of a small profile, by closure: which vertices have a path of one edge or more to which, over all vertices or over those that are
+// not already on the blank.
 //
 // The word of the path from u to x is in place u * 8 + x. No number of a vertex is over 7.
+use crate::areas::BLANK;
 use crate::areas::CIRCLE;
 use crate::areas::CLOSED;
 use crate::areas::Desk;
 use crate::areas::M;
+use crate::areas::OFF;
 use crate::areas::PATHS;
 use crate::areas::START;
 use crate::areas::get_at;
+use crate::areas::get_of;
 use crate::areas::put_at;
 use crate::areas::said;
 use crate::areas::say;
 use crate::areas::word;
 use crate::profiles::end_of;
+use crate::tally::CUT;
+use crate::tally::count;
 use crate::tally::note;
 use crate::turns::CIRCLES;
 use crate::turns::JOINS;
@@ -28,11 +34,26 @@ fn has_path(d: &Desk, u: usize, x: usize) -> bool {
     get_at(d, PATHS, path_place(u, x)) == 1
 }
 
-// Edge i is a path.
+// Whether paths keep off vertex x.
+fn is_off(d: &Desk, x: u16) -> bool {
+    if said(d, OFF) == 0 {
+        return false;
+    }
+    get_of(d, BLANK, x) != 0
+}
+
+// Edge i is a path, where paths keep off neither end.
 pub(crate) fn put_pair(d: &mut Desk, i: usize) {
     let k = word(i as u64 % 65536);
-    let u = end_of(d, k, 0) as usize;
-    put_at(d, PATHS, path_place(u, end_of(d, k, 1) as usize), 1);
+    let u = end_of(d, k, 0);
+    let x = end_of(d, k, 1);
+    if is_off(d, u) {
+        return;
+    }
+    if is_off(d, x) {
+        return;
+    }
+    put_at(d, PATHS, path_place(u as usize, x as usize), 1);
 }
 
 // Joins the paths from u to k and from k to x, where i is k, u and x in base 8: in turn for every k, with all u and x.
@@ -65,12 +86,24 @@ pub(crate) fn put_circle(d: &mut Desk, x: usize) {
     }
 }
 
-// Notes whether the search by a stack says something else of circles than the paths do.
-pub(crate) fn note_circle(d: &mut Desk) {
+// Whether there is a circle, as 1 or 0: over all vertices, or with 1 over those that are not already on the blank.
+fn circle_over(d: &mut Desk, off: u16) -> u16 {
+    say(d, OFF, off);
     say(d, CLOSED, 0);
     each(d, ZEROS + PATHS, 64);
     each(d, PAIRS, said(d, M) as usize);
     each(d, JOINS, 512);
     each(d, CIRCLES, 8);
-    note(d, said(d, CLOSED) != said(d, CIRCLE));
+    said(d, CLOSED)
+}
+
+// Notes whether the search by a stack says something else of circles than the paths do, and says where the elements already on the blank
+// cut all of them.
+pub(crate) fn note_circle(d: &mut Desk) {
+    let all = circle_over(d, 0);
+    let k = circle_over(d, 1);
+    note(d, k != said(d, CIRCLE));
+    if k != all {
+        count(d, CUT);
+    }
 }

@@ -1,6 +1,7 @@
 // One call of the case on the desk, compared with the second implementation.
 use crate::areas::AFTER;
 use crate::areas::ANSWER;
+use crate::areas::BASE;
 use crate::areas::CALL;
 use crate::areas::Desk;
 use crate::areas::EVENTS;
@@ -10,11 +11,14 @@ use crate::areas::SPAN;
 use crate::areas::STEPS;
 use crate::areas::TAIL;
 use crate::areas::WIDE;
+use crate::areas::nodes;
+use crate::areas::note_first;
 use crate::areas::note_words;
 use crate::areas::said;
 use crate::calls::answer_number;
 use crate::calls::call_lent;
 use crate::calls::field;
+use crate::calls::search_lent;
 use crate::second::REPLAY;
 use crate::second::replay;
 use crate::second::serve;
@@ -76,4 +80,16 @@ pub(crate) fn compare(d: &mut Desk) {
     let r = call_lent(d, &mut after, &mut tail, &mut marks, &mut events);
     note_reply(d, r);
     note_areas(d, &after, &tail, &marks, &events);
+}
+
+// The recursive search, whose marks and events are those on the desk once the folded search has ended.
+pub(crate) fn compare_lines(d: &mut Desk) {
+    let mut marks = [0u16; SPAN];
+    let mut events = [0u16; WIDE];
+    let k = search_lent(d, &mut marks, &mut events);
+    note(d, k != 0);
+    let top = nodes(d);
+    note_first(d, MARKS, &marks, top);
+    let words = said(d, BASE) as usize;
+    note_first(d, EVENTS, &events, words);
 }

@@ -10,6 +10,7 @@ use crate::areas::SCRIPT;
 use crate::areas::SEED;
 use crate::areas::START;
 use crate::areas::TAIL;
+use crate::areas::append;
 use crate::areas::less;
 use crate::areas::next;
 use crate::areas::nodes;
@@ -17,7 +18,9 @@ use crate::areas::put_at;
 use crate::areas::said;
 use crate::areas::say;
 use crate::areas::word;
+use crate::blanks::fault_list;
 use crate::chance::draw;
+use crate::moves::ON_BLANK;
 use crate::second::ORDER;
 use crate::second::REPLAY;
 use crate::second::RUN;
@@ -38,7 +41,7 @@ fn shorten(d: &mut Desk, area: usize, by: u16) {
 }
 
 // Fault i + 1 of the example, in one of four ways: a size, a length, the start, a link, a tail, and a link that puts an edge on a second
-// list or on a ring.
+// list or on a ring; the start on the list of elements already on the blank, and this list out of order.
 fn put_fault(d: &mut Desk, i: usize, way: u16) {
     let odd = way % 2;
     match i {
@@ -48,15 +51,17 @@ fn put_fault(d: &mut Desk, i: usize, way: u16) {
         3 => say(d, START, odd * 4),
         4 => put_at(d, AFTER, odd as usize, odd * 6 + 2),
         5 => put_at(d, TAIL, way as usize % 4, odd * 4),
-        _ => put_at(d, AFTER, odd as usize * 4 + 2, odd * 3 + 4),
+        6 => put_at(d, AFTER, odd as usize * 4 + 2, odd * 3 + 4),
+        7 => append(d, 1),
+        _ => fault_list(d, way),
     }
 }
 
-// Puts fault i + 1 where its bit is set in the seed; the bits above the seventh say the way.
+// Puts fault i + 1 where its bit is set in the seed; the bits above the ninth say the way.
 pub(crate) fn fault(d: &mut Desk, i: usize) {
     let bits = said(d, SEED);
-    if bits >> (i % 7) & 1 == 1 {
-        put_fault(d, i, bits / 128);
+    if bits >> (i % 9) & 1 == 1 {
+        put_fault(d, i, bits / 512);
     }
 }
 
@@ -93,12 +98,20 @@ fn mark_drawn(k: u16) -> u16 {
     }
 }
 
-// Word i of the after, tail and mark areas; half of the marks are 0.
+// A mark: half of them are 0; in one of eight cases all are those of elements already on the blank.
+fn draw_mark(d: &Desk, place: usize) -> u16 {
+    if drawn(d, 9014, 8) == 0 {
+        return ON_BLANK;
+    }
+    mark_drawn(drawn(d, place, 16))
+}
+
+// Word i of the after, tail and mark areas.
 pub(crate) fn draw_words(d: &mut Desk, i: usize) {
     let k = i % 1000 * 3;
     put_at(d, AFTER, i, drawn_node(d, k));
     put_at(d, TAIL, i, drawn_node(d, k + 1));
-    put_at(d, MARKS, i, mark_drawn(drawn(d, k + 2, 16)));
+    put_at(d, MARKS, i, draw_mark(d, k + 2));
 }
 
 // A field in its bounds. The sizes are as they are, and e is now and then 0.

@@ -2,6 +2,7 @@
 use crate::areas::AFTER;
 use crate::areas::ANSWER;
 use crate::areas::BASE;
+use crate::areas::BLANK;
 use crate::areas::CALL;
 use crate::areas::CIRCULAR;
 use crate::areas::Desk;
@@ -15,6 +16,7 @@ use crate::areas::PHASE;
 use crate::areas::SEED;
 use crate::areas::TAIL;
 use crate::areas::get_at;
+use crate::areas::get_of;
 use crate::areas::next;
 use crate::areas::put_at;
 use crate::areas::said;
@@ -50,12 +52,13 @@ fn rank(d: &Desk, kind: u16, u: u16, top: usize) -> u16 {
     0
 }
 
-// The mark of u by the events so far: its rank among the labels, and 32,768 more as long as its scan is not among them.
+// The mark of u by the events so far: its rank among the labels, and 32,768 more as long as its scan is not among them; without a label as
+// before the start had one.
 fn mark_so_far(d: &Desk, u: u16) -> u16 {
     let top = said(d, BASE) as usize / 3;
     let k = rank(d, 1, u, top);
     if k == 0 {
-        return 0;
+        return get_of(d, BLANK, u);
     }
     if rank(d, 6, u, top) == 0 {
         word(UNSCANNED as u64 + k as u64)
@@ -64,23 +67,27 @@ fn mark_so_far(d: &Desk, u: u16) -> u16 {
     }
 }
 
-// Notes where a mark is not what the events so far say, or not 0 in phase 5.
+// Notes where a mark is not what the events so far say, or in phase 5 not as before the start was labelled.
 pub(crate) fn follow(d: &mut Desk, i: usize) {
     let w = if said(d, PHASE) == 5 {
-        0
+        get_at(d, BLANK, i)
     } else {
         mark_so_far(d, word(i as u64 % 65536 + 1))
     };
     note(d, get_at(d, MARKS, i) != w);
 }
 
-// Says where event i is an advance along a nontree edge to a vertex whose scan is not among the events before.
+// Says where event i is an advance along a nontree edge to a vertex whose scan is not among the events before, and which is not already on
+// the blank.
 pub(crate) fn meet(d: &mut Desk, i: usize) {
     let at = i % 65536 * 3;
     if get_at(d, EVENTS, at) != 3 {
         return;
     }
     let x = get_at(d, LOADED_TAIL, tail_place(d, get_at(d, EVENTS, at + 1)));
+    if get_of(d, BLANK, x) != 0 {
+        return;
+    }
     if rank(d, 6, x, i) == 0 {
         say(d, MET, 1);
     }
@@ -107,19 +114,20 @@ pub(crate) fn note_marks(d: &mut Desk) {
     }
 }
 
-// A mark of vertex 2; the figure, where it was 0, and the mark that a step to it leaves; the mark that the end of its scan leaves.
+// A mark of vertex 2; the figure, where it was 0, and the mark that a step to it leaves; the marks that the end of its scan leaves, and the
+// last step of a roll-back.
 const MARK_COUNT: usize = 9;
 
-const MARK_ROWS: [[u16; 4]; MARK_COUNT] = [
-    [0, 0, 32770, 0],
-    [1, 0, 1, 1],
-    [7, 0, 7, 7],
-    [32767, 0, 32767, 32767],
-    [32768, 1, 32768, 0],
-    [32769, 1, 32769, 1],
-    [32775, 1, 32775, 7],
-    [65534, 1, 65534, 32766],
-    [65535, 1, 65535, 32767],
+const MARK_ROWS: [[u16; 5]; MARK_COUNT] = [
+    [0, 0, 32770, 0, 0],
+    [1, 0, 1, 1, 0],
+    [7, 0, 7, 7, 0],
+    [32767, 0, 32767, 32767, 0],
+    [32768, 1, 32768, 0, 0],
+    [32769, 1, 32769, 1, 0],
+    [32775, 1, 32775, 7, 0],
+    [65534, 1, 65534, 32766, 0],
+    [65535, 0, 65535, 32767, 65535],
 ];
 
 // A state, in the order of the desk, and the tail of edge 4.
@@ -138,14 +146,14 @@ const STEP_ROWS: [[u16; 10]; STEP_COUNT] = [
     [2, 5, 0, 4, 2, 0, 3, 2, 2, 0],
 ];
 
-// The after words, and the marks, of which that of vertex 2 is another in each row.
+// The after words; the marks, of which that of vertex 2 is another in each row; and what the last step of a roll-back leaves of the others.
 const LINKS: [u16; 5] = [4, 0, 0, 5, 0];
 
-const OTHERS: [u16; 5] = [33333, 0, 11, 40004, 7];
+const OTHERS: [[u16; 5]; 2] = [[33333, 0, 65535, 40004, 65535], [0, 0, 65535, 40004, 65535]];
 
 // An example is a number: the row of its mark, the figure before, and the row of its step.
 fn mark_word(i: u16, k: usize) -> u16 {
-    MARK_ROWS[i as usize % MARK_COUNT][k % 4]
+    MARK_ROWS[i as usize % MARK_COUNT][k % 5]
 }
 
 fn figure_before(i: u16) -> u16 {
@@ -165,7 +173,7 @@ pub(crate) fn lay(d: &mut Desk, k: usize) {
     let i = said(d, SEED);
     say(d, k, step_word(i, k));
     put_at(d, AFTER, k, LINKS[k % 5]);
-    put_at(d, MARKS, k, OTHERS[k % 5]);
+    put_at(d, MARKS, k, OTHERS[0][k % 5]);
 }
 
 // The mark of vertex 2 after the step.
@@ -174,18 +182,13 @@ fn mark_after(i: u16) -> u16 {
         0 => mark_word(i, 2),
         1..=4 => mark_word(i, 3),
         5 => mark_word(i, 0),
-        _ => 0,
+        _ => mark_word(i, 4),
     }
 }
 
 // The mark at place k after the step: only the last step of a roll-back changes one that is not of vertex 2.
 fn other_after(i: u16, k: usize) -> u16 {
-    if k < 3 {
-        if step_of(i) == 6 {
-            return 0;
-        }
-    }
-    OTHERS[k % 5]
+    OTHERS[step_of(i) / 6 % 2][k % 5]
 }
 
 // Notes where the mark at place k is not as written down.

@@ -28,12 +28,19 @@ use crate::areas::said;
 use crate::areas::say;
 use crate::areas::tail_place;
 use crate::areas::word;
+use crate::tally::SCANNED;
+use crate::tally::SPARED;
+use crate::tally::TOUCHED;
+use crate::tally::count;
+use crate::turns::SPARES;
 use crate::turns::UNDONE;
-use crate::turns::ZEROS;
 use crate::turns::each;
 
 // What the mark of a vertex is more than its number from its label up to its scan.
 pub(crate) const UNSCANNED: u16 = 32768;
+
+// The mark of an element already on the blank.
+pub(crate) const ON_BLANK: u16 = 65535;
 
 fn note_down(d: &mut Desk, w: u16) {
     let k = said(d, KEPT) as usize;
@@ -158,8 +165,10 @@ fn walk(d: &mut Desk, v: u16, e: u16) -> bool {
     if mark == 0 {
         return tree(d, v, e, x);
     }
-    if UNSCANNED <= mark {
-        set(d, CIRCULAR, 1);
+    match mark {
+        ON_BLANK => count(d, TOUCHED),
+        UNSCANNED..=65534 => set(d, CIRCULAR, 1),
+        _ => {}
     }
     emit(d, 3, e, v);
     emit(d, 4, e, v);
@@ -178,6 +187,14 @@ fn turn(d: &mut Desk, f: u16) -> bool {
     fits
 }
 
+// What the end of a roll-back leaves in place i: the mark of an element already on the blank, or 0.
+pub(crate) fn spare(d: &mut Desk, i: usize) {
+    if get_at(d, MARKS, i) == ON_BLANK {
+        return count(d, SPARED);
+    }
+    put_at(d, MARKS, i, 0);
+}
+
 // A close with f 0.
 fn close_start(d: &mut Desk, v: u16, winding: bool) -> bool {
     if v != said(d, START) {
@@ -188,7 +205,7 @@ fn close_start(d: &mut Desk, v: u16, winding: bool) -> bool {
         return true;
     }
     set(d, PHASE, 5);
-    each(d, ZEROS + MARKS, said(d, N) as usize);
+    each(d, SPARES, said(d, N) as usize);
     true
 }
 
@@ -215,7 +232,11 @@ fn reopen(d: &mut Desk) -> bool {
 
 // The scan of v is over.
 fn scan(d: &mut Desk, v: u16) {
-    set_mark(d, v, get_of(d, MARKS, v) % UNSCANNED);
+    let mark = get_of(d, MARKS, v);
+    if mark == ON_BLANK {
+        count(d, SCANNED);
+    }
+    set_mark(d, v, mark % UNSCANNED);
     emit(d, 6, 0, v);
 }
 

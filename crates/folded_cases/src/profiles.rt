@@ -91,7 +91,7 @@ fn in_order(seed: u16, m: u16, i: u16) -> u16 {
 }
 
 // Puts edge i, which leads to x, in front of the list of u.
-fn link(d: &mut Desk, i: u16, u: u16, x: u16) {
+pub(crate) fn link(d: &mut Desk, i: u16, u: u16, x: u16) {
     let e = word(said(d, N) as u64 + i as u64 + 1);
     put_of(d, AFTER, e, get_of(d, AFTER, u));
     put_of(d, AFTER, u, e);

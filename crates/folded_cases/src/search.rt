@@ -21,6 +21,7 @@ use crate::areas::raise;
 use crate::areas::said;
 use crate::areas::say;
 use crate::areas::tail_place;
+use crate::turns::BLANKS;
 use crate::turns::SEARCHED;
 use crate::turns::ZEROS;
 use crate::turns::each;
@@ -101,10 +102,11 @@ pub(crate) fn turn_search(d: &mut Desk) {
     go_back(d, k as usize - 1);
 }
 
-// The search of the profile on the desk.
+// The search of the profile on the desk. The elements already on the blank have a mark, and no colour.
 pub(crate) fn search(d: &mut Desk) {
     let top = nodes(d);
-    each(d, ZEROS + FOUND, top);
+    each(d, BLANKS + FOUND, top);
+    each(d, ZEROS + COLOURS, top);
     push(d, 1, said(d, START));
     each(d, SEARCHED, top);
 }

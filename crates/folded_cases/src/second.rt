@@ -4,10 +4,14 @@ use crate::areas::AFTER;
 use crate::areas::ANSWER;
 use crate::areas::AT;
 use crate::areas::BASE;
+use crate::areas::BEFORE;
+use crate::areas::BEFORE_WORDS;
+use crate::areas::BLANK;
 use crate::areas::BUDGET;
 use crate::areas::CALL;
 use crate::areas::CASE;
 use crate::areas::CIRCULAR;
+use crate::areas::CROSSED;
 use crate::areas::Desk;
 use crate::areas::E;
 use crate::areas::F;
@@ -32,15 +36,20 @@ use crate::areas::get_at;
 use crate::areas::get_of;
 use crate::areas::less;
 use crate::areas::nodes;
+use crate::areas::put_at;
 use crate::areas::put_of;
 use crate::areas::raise;
 use crate::areas::said;
 use crate::areas::say;
 use crate::areas::whole;
+use crate::areas::word;
 use crate::calls::check_image;
+use crate::moves::ON_BLANK;
 use crate::moves::UNSCANNED;
 use crate::moves::emit;
 use crate::moves::step;
+use crate::turns::BLANKS;
+use crate::turns::CROSSES;
 use crate::turns::ZEROS;
 use crate::turns::each;
 
@@ -58,11 +67,11 @@ pub(crate) const REPLAY: u16 = 4;
 pub(crate) const ACCEPT: u16 = 5;
 
 // Answers that are no number with which these calls are refused: a run ended, spent, stuck.
-pub(crate) const ENDED: u16 = 12;
+pub(crate) const ENDED: u16 = 19;
 
-pub(crate) const SPENT: u16 = 13;
+pub(crate) const SPENT: u16 = 20;
 
-pub(crate) const STUCK: u16 = 14;
+pub(crate) const STUCK: u16 = 21;
 
 // The least length of an area: after, tail, marks, events.
 pub(crate) fn least_length(d: &Desk, area: usize) -> usize {
@@ -170,12 +179,47 @@ fn is_over(d: &Desk) -> bool {
     }
 }
 
+// Crosses vertex i + 1 off the list of elements already on the blank, where it is the next there, and marks it.
+pub(crate) fn cross(d: &mut Desk, i: usize) {
+    let k = said(d, CROSSED);
+    if k == said(d, BEFORE_WORDS) {
+        return;
+    }
+    if get_at(d, BEFORE, k as usize) == word(i as u64 % 65536 + 1) {
+        put_at(d, BLANK, i, ON_BLANK);
+        raise(d, CROSSED, 1);
+    }
+}
+
+// Crosses the vertices off that list, from 1 to n. One that is not strictly rising, or leaves 1 to n, is not crossed off as a whole.
+pub(crate) fn cross_all(d: &mut Desk) {
+    say(d, CROSSED, 0);
+    each(d, ZEROS + BLANK, nodes(d));
+    each(d, CROSSES, said(d, N) as usize);
+}
+
+// What that list shows, once it is crossed off as far as it can be, or 0.
+fn list_number(d: &Desk) -> u16 {
+    if said(d, CROSSED) != said(d, BEFORE_WORDS) {
+        return 17;
+    }
+    if get_of(d, BLANK, said(d, START)) == 0 {
+        0
+    } else {
+        18
+    }
+}
+
 fn open_number(d: &Desk) -> u16 {
     let k = fields_number(d, 3);
     if k != 0 {
         return k;
     }
-    check_image(said(d, N), said(d, M), whole(d, AFTER), whole(d, TAIL))
+    let j = check_image(said(d, N), said(d, M), whole(d, AFTER), whole(d, TAIL));
+    if j != 0 {
+        return j;
+    }
+    list_number(d)
 }
 
 // Whether the figure is too great: 999,999 is 15 times 65,536 and 16,959.
@@ -216,7 +260,7 @@ fn number(d: &Desk, call: u16) -> u16 {
 
 // An opening that is taken.
 fn open(d: &mut Desk, start: u16) -> u16 {
-    each(d, ZEROS + MARKS, nodes(d));
+    each(d, BLANKS + MARKS, nodes(d));
     put_of(d, MARKS, start, UNSCANNED + 1);
     emit(d, 1, 0, start);
     say(d, V, start);
@@ -300,10 +344,11 @@ fn settle(d: &mut Desk, answer: u16) {
 pub(crate) fn serve(d: &mut Desk) {
     let call = said(d, CALL);
     say(d, STEPS, 0);
-    let k = number(d, call);
     if call == OPEN {
+        cross_all(d);
         each(d, ZEROS + CASE, 6);
     }
+    let k = number(d, call);
     let answer = if k == 0 { act(d, call) } else { k };
     settle(d, answer);
 }

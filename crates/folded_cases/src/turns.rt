@@ -1,5 +1,6 @@
 // One loop for all that is done on the desk place by place.
 use crate::areas::AFTER;
+use crate::areas::BLANK;
 use crate::areas::Desk;
 use crate::areas::EVENTS;
 use crate::areas::FOUND;
@@ -14,6 +15,9 @@ use crate::areas::get_at;
 use crate::areas::put_at;
 use crate::areas::say;
 use crate::areas::word;
+use crate::blanks::append_drawn;
+use crate::blanks::pick;
+use crate::blanks::put_picked;
 use crate::circles::join;
 use crate::circles::put_circle;
 use crate::circles::put_pair;
@@ -27,58 +31,78 @@ use crate::marks::follow;
 use crate::marks::lay;
 use crate::marks::left;
 use crate::marks::meet;
+use crate::moves::spare;
 use crate::moves::undo;
 use crate::panels::put_word;
 use crate::profiles::make_edge;
+use crate::rows;
 use crate::search::turn_search;
 use crate::second::RUN;
+use crate::second::cross;
 use crate::second::least_length;
 use crate::tally::note;
 
-// Kinds of turns. An area's number fills it with untouched words, and this more with zeros.
-pub(crate) const ZEROS: usize = 22;
+// Kinds of turns. An area's number fills it with untouched words, the first more with zeros, and the second more with the marks from before
+// the start is labelled.
+pub(crate) const ZEROS: usize = 24;
 
-pub(crate) const EDGES: usize = 44;
+pub(crate) const BLANKS: usize = 48;
 
-pub(crate) const LOADS: usize = 45;
+pub(crate) const EDGES: usize = 72;
 
-pub(crate) const LENT: usize = 46;
+pub(crate) const LOADS: usize = 73;
 
-pub(crate) const SEARCHED: usize = 47;
+pub(crate) const LENT: usize = 74;
 
-pub(crate) const UNDONE: usize = 48;
+pub(crate) const SEARCHED: usize = 75;
 
-pub(crate) const FAULTS: usize = 49;
+pub(crate) const UNDONE: usize = 76;
 
-pub(crate) const DRAWN: usize = 50;
+pub(crate) const FAULTS: usize = 77;
 
-pub(crate) const FIELDS: usize = 51;
+pub(crate) const DRAWN: usize = 78;
 
-pub(crate) const SCRIPTS: usize = 52;
+pub(crate) const FIELDS: usize = 79;
 
-pub(crate) const STEPPED: usize = 53;
+pub(crate) const SCRIPTS: usize = 80;
 
-pub(crate) const JAMS: usize = 54;
+pub(crate) const STEPPED: usize = 81;
 
-pub(crate) const BACK: usize = 55;
+pub(crate) const JAMS: usize = 82;
 
-pub(crate) const LISTED: usize = 56;
+pub(crate) const BACK: usize = 83;
 
-pub(crate) const ROWS: usize = 57;
+pub(crate) const LISTED: usize = 84;
 
-pub(crate) const PAIRS: usize = 58;
+pub(crate) const ROWS: usize = 85;
 
-pub(crate) const JOINS: usize = 59;
+pub(crate) const PAIRS: usize = 86;
 
-pub(crate) const CIRCLES: usize = 60;
+pub(crate) const JOINS: usize = 87;
 
-pub(crate) const FOLLOWS: usize = 61;
+pub(crate) const CIRCLES: usize = 88;
 
-pub(crate) const MEETS: usize = 62;
+pub(crate) const FOLLOWS: usize = 89;
 
-pub(crate) const LAID: usize = 63;
+pub(crate) const MEETS: usize = 90;
 
-pub(crate) const LEFT: usize = 64;
+pub(crate) const LAID: usize = 91;
+
+pub(crate) const LEFT: usize = 92;
+
+pub(crate) const CROSSES: usize = 93;
+
+pub(crate) const SPARES: usize = 94;
+
+pub(crate) const PICKS: usize = 95;
+
+pub(crate) const LISTS: usize = 96;
+
+pub(crate) const APPENDS: usize = 97;
+
+pub(crate) const LAYS: usize = 98;
+
+pub(crate) const CHECKS: usize = 99;
 
 // Notes how the links are loaded.
 fn hold(d: &mut Desk, i: usize) {
@@ -106,8 +130,9 @@ fn back(d: &mut Desk, i: usize) {
 
 fn turn(d: &mut Desk, kind: usize, i: usize) {
     match kind {
-        0..=21 => put_at(d, kind, i, UNTOUCHED),
-        22..=43 => put_at(d, kind, i, 0),
+        0..=23 => put_at(d, kind, i, UNTOUCHED),
+        24..=47 => put_at(d, kind, i, 0),
+        48..=71 => put_at(d, kind, i, get_at(d, BLANK, i)),
         EDGES => make_edge(d, i),
         LOADS => hold(d, i),
         LENT => lend(d, i),
@@ -128,6 +153,13 @@ fn turn(d: &mut Desk, kind: usize, i: usize) {
         MEETS => meet(d, i),
         LAID => lay(d, i),
         LEFT => left(d, i),
+        CROSSES => cross(d, i),
+        SPARES => spare(d, i),
+        PICKS => pick(d, i),
+        LISTS => put_picked(d, i),
+        APPENDS => append_drawn(d, i),
+        LAYS => rows::lay(d, i),
+        CHECKS => rows::check(d, i),
         _ => same(d, EVENTS, LIST, i),
     }
 }

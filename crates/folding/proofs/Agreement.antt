@@ -1,7 +1,7 @@
 -- Demand 3, and demand 2 of the folded search: what line B's invariant says of the line.
 -- By the phase; line A's advances are the references met, its scans the elements reached.
 use mathlib.Core.Path.{_≡_, refl, sym, ap, _∙_, subst}
-use mathlib.Core.Logic.{_⊎_, inl, inr}
+use mathlib.Core.Logic.{_↔_, _⊎_, inl, inr}
 use mathlib.Core.Bool.{Bool, true, false, cond}
 use mathlib.Core.List.{List, [], _∷_, append-nil, reverse, reverse-reverse, IsPrefix}
 use Prim.Native.Nat.{ℕ, _+_, _*_, _≤_, _<_}
@@ -10,11 +10,12 @@ use lib.ListN.{length}
 use lib.Dec.{eqb}
 use borrow.Author.Tests.{eqb-true, eqb-false}
 use Rattle.lists.specs.Members.{Mem, Same}
+use Rattle.lists.specs.Words.{at}
 use Rattle.lists.proofs.Tests.{clash}
 use Rattle.lists.proofs.Counts.{same-sum, same-length}
 use Rattle.graphs.specs.Nodes.{Vertex}
 use Rattle.graphs.specs.Graph.{Reached, met}
-use Rattle.graphs.specs.Events.{Event, event, label, scan, History, labelled, scanned}
+use Rattle.graphs.specs.Events.{Event, event, label, scan, History, known, labelled, scanned}
 use Rattle.graphs.specs.Depth.{DepthFirst}
 use Rattle.graphs.specs.Results.{marksLeft, marksNow}
 use Rattle.graphs.specs.Circles.{circularOf}
@@ -23,9 +24,10 @@ use Rattle.graphs.specs.Refusals.{lent}
 use Rattle.graphs.specs.Claims.{Ready}
 use Rattle.graphs.proofs.Refusals.{long}
 use Rattle.graphs.proofs.Sound.{Sound, Profile, profile-sound}
+use Rattle.graphs.proofs.Blanks.{Listed}
 use Rattle.graphs.proofs.Owned.{met-most, image-owned}
-use Rattle.graphs.proofs.Labels.{labels-few, reached-labels}
-use Rattle.graphs.proofs.Results.{named-length, marks-now-end}
+use Rattle.graphs.proofs.Labels.{Labels, labels-few, reached-labels}
+use Rattle.graphs.proofs.Results.{named-length, marks-first-blank, marks-now-blank, marks-now-end}
 use Rattle.graphs.proofs.Circles.{circular}
 use Rattle.graphs.proofs.Depth.{depth-first, depth-relates}
 use Rattle.graphs.proofs.Room.{profile-ready}
@@ -34,6 +36,7 @@ use Rattle.folding.specs.Machine.{Config, walking, restoring, finished, 
 use Rattle.folding.specs.Calls.{Reason, ended, spent, stuck, Reply, unless, over, run, Call, runFor, numberOf, perform, serve, opening, openNumber, unopened, openedAt, openReply}
 use Rattle.folding.specs.Lines.{Line, begun, calls, lineA, lineB, folded}
 use Rattle.folding.specs.Claims.{stopReason, Faultless, Labelling, Demand2, Agrees, Agreement}
+use Rattle.folding.proofs.Steps.{few-labels}
 use Rattle.folding.proofs.Future.{allOf, advances, scans, Short, short, prefix-of}
 use Rattle.folding.proofs.Invariant.{Trace, Scene, Holds, at-walking, at-restoring, at-rolling, at-end, at-undone, weight}
 use Rattle.folding.proofs.Runs.{run-stops}
@@ -41,28 +44,28 @@ use Rattle.folding.proofs.Running.{Free, advance, Ran, run-holds}
 use Rattle.folding.proofs.Calls.{traceOf, Held, run-number, calls-held, opened-held}
 
 -- ---- line A's counts
-module _ (g : Image) (start : ℕ) (R : Ready (graphOf g) [] start) (vs : List ℕ) (E : Reached (graphOf g) [] start vs) where
+module _ (g : Image) (before : List ℕ) (start : ℕ) (R : Ready (graphOf g) before start) (vs : List ℕ) (E : Reached (graphOf g) before start vs) where
   -- Two lists of the reached vertices have the same members.
-  same-reached : (us : List ℕ) → Reached (graphOf g) [] start us → Same us vs
+  same-reached : (us : List ℕ) → Reached (graphOf g) before start us → Same us vs
   same-reached us F x = (λ m. E .exact x .1 (F .exact x .0 m), λ m. F .exact x .1 (E .exact x .0 m))
 
-  met-is : advances (allOf g start) ≡ met (graphOf g) vs
+  met-is : advances (allOf g before start) ≡ met (graphOf g) vs
   met-is =
-      let D = depth-first (graphOf g) [] start R in
-      D .advances ∙ same-sum (λ u. length (graphOf g .out u)) (labelled (allOf g start)) vs (D .complete .labels .once) (E .once) (same-reached (labelled (allOf g start)) (D .complete .labels))
+      let D = depth-first (graphOf g) before start R in
+      D .advances ∙ same-sum (λ u. length (graphOf g .out u)) (labelled (allOf g before start)) vs (D .complete .labels .once) (E .once) (same-reached (labelled (allOf g before start)) (D .complete .labels))
 
-  reached-is : scans (allOf g start) ≡ length vs
+  reached-is : scans (allOf g before start) ≡ length vs
   reached-is =
-      let D = depth-first (graphOf g) [] start R in
-      sym (named-length scan (allOf g start)) ∙ same-length (scanned (allOf g start)) vs (D .complete .scans .once) (E .once) (same-reached (scanned (allOf g start)) (D .complete .scans))
+      let D = depth-first (graphOf g) before start R in
+      sym (named-length scan (allOf g before start)) ∙ same-length (scanned (allOf g before start)) vs (D .complete .scans .once) (E .once) (same-reached (scanned (allOf g before start)) (D .complete .scans))
 
 -- ---- what the invariant says
-module _ (g : Image) (S : Sound g) (start : ℕ) (hs : Vertex (g .n) start) (area : List ℕ) (lm : g .n + g .m ≤ length area) where
-  R : Ready (graphOf g) [] start
-  R = profile-ready g S start hs
+module _ (g : Image) (S : Sound g) (before : List ℕ) (start : ℕ) (hs : Vertex (g .n) start) (blank : Listed (g .n) before start) (area : List ℕ) (lm : g .n + g .m ≤ length area) where
+  R : Ready (graphOf g) before start
+  R = profile-ready g S before start hs blank
 
   -- The phase of a place.
-  phase-is : (ph k : ℕ) (t : Trace) (v : ℕ) (done rest : List ℕ) (s : List Frame) (stale : ℕ) → Scene g start area ph t v done rest s stale → (ph ≡ k → ⊥) → t .config .phase ≡ k → ⊥
+  phase-is : (ph k : ℕ) (t : Trace) (v : ℕ) (done rest : List ℕ) (s : List Frame) (stale : ℕ) → Scene g before start area ph t v done rest s stale → (ph ≡ k → ⊥) → t .config .phase ≡ k → ⊥
   phase-is ph k t v done rest s stale C ne e = ne (sym (ap (λ (w : Config). w .phase) (C .is-config)) ∙ e)
 
   -- There is a step to come, so nothing is said of the links.
@@ -70,19 +73,19 @@ module _ (g : Image) (S : Sound g) (start : ℕ) (hs : Vertex (g .n) start) (are
   not-closed w x3 x5 (inl e) = absurd (x3 e)
   not-closed w x3 x5 (inr e) = absurd (x5 e)
 
-  history-is : (l : Line) (H : Held g S start hs area lm l) → reverse (l .events) ≡ H .history
+  history-is : (l : Line) (H : Held g S before start hs blank area lm l) → reverse (l .events) ≡ H .history
   history-is l H = ap reverse (H .events) ∙ reverse-reverse (H .history)
 
-  agrees-open : (ph : ℕ) (l : Line) (H : Held g S start hs area lm l) (v : ℕ) (done rest ahead : List ℕ) (s : List Frame) (stale : ℕ) (vs : List ℕ) → Reached (graphOf g) [] start vs → (ph ≡ finished → ⊥) → (ph ≡ rolledBack → ⊥)
-      → Scene g start area ph (traceOf l (H .history)) v done rest s stale → finishing (graphOf g) s v ahead (H .history) ≡ allOf g start → l .rolling ≡ false → l .steps + weight done s ≡ 2 * advances (H .history) + scans (H .history) → Agrees g start vs l
+  agrees-open : (ph : ℕ) (l : Line) (H : Held g S before start hs blank area lm l) (v : ℕ) (done rest ahead : List ℕ) (s : List Frame) (stale : ℕ) (vs : List ℕ) → Reached (graphOf g) before start vs → (ph ≡ finished → ⊥) → (ph ≡ rolledBack → ⊥)
+      → Scene g before start area ph (traceOf l (H .history)) v done rest s stale → finishing (graphOf g) before s v ahead (H .history) ≡ allOf g before start → l .rolling ≡ false → l .steps + weight done s ≡ 2 * advances (H .history) + scans (H .history) → Agrees g before start vs l
   agrees-open ph l H v done rest ahead s stale vs E n3 n5 C fut calm cnt =
-      let sh : Short (H .history) (allOf g start) = subst (Short (H .history)) fut (short g s v ahead (H .history)) in
+      let sh : Short (H .history) (allOf g before start) = subst (Short (H .history)) fut (short g before s v ahead (H .history)) in
       let x3 : l .config .phase ≡ finished → ⊥ = phase-is ph finished (traceOf l (H .history)) v done rest s stale C n3 in
       let x5 : l .config .phase ≡ rolledBack → ⊥ = phase-is ph rolledBack (traceOf l (H .history)) v done rest s stale C n5 in
-      let a = met-is g start R vs E in
-      let b = reached-is g start R vs E in
+      let a = met-is g before start R vs E in
+      let b = reached-is g before start R vs E in
       record {
-        first = subst (λ (es : List Event). IsPrefix es (lineA g start)) (sym (H .events)) (prefix-of (sh .first));
+        first = subst (λ (es : List Event). IsPrefix es (lineA g before start)) (sym (H .events)) (prefix-of (sh .first));
         ends = λ z. (λ e. absurd (x3 e), λ e. (let q : l .steps ≡ 2 * met (graphOf g) vs + length vs = e in absurd (omega arith)));
         all = λ z e. absurd (x3 e);
         bound = λ z. clash (sym z ∙ calm);
@@ -91,16 +94,16 @@ module _ (g : Image) (S : Sound g) (start : ℕ) (hs : Vertex (g .n) start) (are
         faultless = H .faultless;
       }
 
-  agrees-of : (l : Line) (H : Held g S start hs area lm l) → Holds g start area (traceOf l (H .history)) → (vs : List ℕ) → Reached (graphOf g) [] start vs → Agrees g start vs l
+  agrees-of : (l : Line) (H : Held g S before start hs blank area lm l) → Holds g before start area (traceOf l (H .history)) → (vs : List ℕ) → Reached (graphOf g) before start vs → Agrees g before start vs l
   agrees-of l H (at-walking v done rest s stale C fut calm cnt) vs E = agrees-open walking l H v done rest rest s stale vs E (eqb-false walking finished refl) (eqb-false walking rolledBack refl) C fut calm cnt
   agrees-of l H (at-restoring v done rest s stale C fut calm cnt) vs E = agrees-open restoring l H v done rest [] s stale vs E (eqb-false restoring finished refl) (eqb-false restoring rolledBack refl) C fut calm cnt
   agrees-of l H (at-rolling v done rest s stale C sh ro cnt) vs E =
       let x3 : l .config .phase ≡ finished → ⊥ = phase-is rollingBack finished (traceOf l (H .history)) v done rest s stale C (eqb-false rollingBack finished refl) in
       let x5 : l .config .phase ≡ rolledBack → ⊥ = phase-is rollingBack rolledBack (traceOf l (H .history)) v done rest s stale C (eqb-false rollingBack rolledBack refl) in
-      let a = met-is g start R vs E in
-      let b = reached-is g start R vs E in
+      let a = met-is g before start R vs E in
+      let b = reached-is g before start R vs E in
       record {
-        first = subst (λ (es : List Event). IsPrefix es (lineA g start)) (sym (H .events)) (prefix-of (sh .first));
+        first = subst (λ (es : List Event). IsPrefix es (lineA g before start)) (sym (H .events)) (prefix-of (sh .first));
         ends = λ z. clash (sym ro ∙ z);
         all = λ z e. absurd (x3 e);
         bound = λ z. omega arith;
@@ -109,8 +112,8 @@ module _ (g : Image) (S : Sound g) (start : ℕ) (hs : Vertex (g .n) start) (are
         faultless = H .faultless;
       }
   agrees-of l H (at-end K e calm cnt) vs E =
-      let all : l .events ≡ lineA g start = H .events ∙ ap reverse e in
-      let tot : 2 * advances (allOf g start) + scans (allOf g start) ≡ 2 * met (graphOf g) vs + length vs = λ i. 2 * met-is g start R vs E i + reached-is g start R vs E i in
+      let all : l .events ≡ lineA g before start = H .events ∙ ap reverse e in
+      let tot : 2 * advances (allOf g before start) + scans (allOf g before start) ≡ 2 * met (graphOf g) vs + length vs = λ i. 2 * met-is g before start R vs E i + reached-is g before start R vs E i in
       record {
         first = ([], append-nil (l .events) ∙ all);
         ends = λ z. (λ q. cnt ∙ tot, λ q. ap (λ (w : Config). w .phase) (K .is-config));
@@ -121,10 +124,10 @@ module _ (g : Image) (S : Sound g) (start : ℕ) (hs : Vertex (g .n) start) (are
         faultless = H .faultless;
       }
   agrees-of l H (at-undone K x ro cnt) vs E =
-      let a = met-is g start R vs E in
-      let b = reached-is g start R vs E in
+      let a = met-is g before start R vs E in
+      let b = reached-is g before start R vs E in
       record {
-        first = subst (λ (es : List Event). IsPrefix es (lineA g start)) (sym (H .events)) (prefix-of x);
+        first = subst (λ (es : List Event). IsPrefix es (lineA g before start)) (sym (H .events)) (prefix-of x);
         ends = λ z. clash (sym ro ∙ z);
         all = λ z q. clash (sym ro ∙ z);
         bound = λ z. omega arith;
@@ -134,40 +137,48 @@ module _ (g : Image) (S : Sound g) (start : ℕ) (hs : Vertex (g .n) start) (are
       }
 
   -- ---- labels
+  -- Which marks are 65,535, while B is not rolled back.
+  blanks-now : (l : Line) (h : History) → l .config .marks ≡ marksNow (g .n + g .m) before h area → Labels (g .n) (known before h) → (x : ℕ) → 0 < x → x ≤ g .n → (at 0 (l .config .marks) x ≡ 65535) ↔ Mem x before
+  blanks-now l h e L x p q =
+      let B : (at 0 (marksNow (g .n + g .m) before h area) x ≡ 65535) ↔ Mem x before = marks-now-blank (g .n + g .m) before h area (few-labels g S start before h L) x p (omega arith) in
+      rw e B
+
   -- What a place says: nothing has ended, and circular is what the events say.
-  labelling-open : (ph : ℕ) (l : Line) (H : Held g S start hs area lm l) (v : ℕ) (done rest : List ℕ) (s : List Frame) (stale : ℕ) → (ph ≡ finished → ⊥) → (ph ≡ rolledBack → ⊥) → Scene g start area ph (traceOf l (H .history)) v done rest s stale → Labelling g start area l
+  labelling-open : (ph : ℕ) (l : Line) (H : Held g S before start hs blank area lm l) (v : ℕ) (done rest : List ℕ) (s : List Frame) (stale : ℕ) → (ph ≡ finished → ⊥) → (ph ≡ rolledBack → ⊥) → Scene g before start area ph (traceOf l (H .history)) v done rest s stale → Labelling g before start area l
   labelling-open ph l H v done rest s stale n3 n5 C = record {
     events = λ e. absurd (phase-is ph finished (traceOf l (H .history)) v done rest s stale C n3 e);
     labels = λ e. absurd (phase-is ph finished (traceOf l (H .history)) v done rest s stale C n3 e);
     no-labels = λ e. absurd (phase-is ph rolledBack (traceOf l (H .history)) v done rest s stale C n5 e);
-    marks-now = λ n. ap (λ (w : Config). w .marks) (C .is-config) ∙ ap (λ (h : History). marksNow (g .n + g .m) h area) (sym (history-is l H));
+    marks-now = λ n. ap (λ (w : Config). w .marks) (C .is-config) ∙ ap (λ (h : History). marksNow (g .n + g .m) before h area) (sym (history-is l H));
     circle = λ e. absurd (phase-is ph finished (traceOf l (H .history)) v done rest s stale C n3 e);
     circular = ap (λ (w : Config). w .circular) (C .is-config) ∙ ap (circularOf (graphOf g)) (sym (history-is l H));
+    blanks = blanks-now l (H .history) (ap (λ (w : Config). w .marks) (C .is-config)) (C .labels);
   }
 
   -- Line A scans all that it labels.
   abbrev AllScanned : History → Type 0
   AllScanned h = (x : ℕ) → Mem x (labelled h) → Mem x (scanned h)
 
-  all-scanned : AllScanned (allOf g start)
+  all-scanned : AllScanned (allOf g before start)
   all-scanned x m =
-      let D = depth-first (graphOf g) [] start R .complete in
+      let D = depth-first (graphOf g) before start R .complete in
       D .scans .exact x .1 (D .labels .exact x .0 m)
 
-  labelling-of : (l : Line) (H : Held g S start hs area lm l) → Holds g start area (traceOf l (H .history)) → Labelling g start area l
+  labelling-of : (l : Line) (H : Held g S before start hs blank area lm l) → Holds g before start area (traceOf l (H .history)) → Labelling g before start area l
   labelling-of l H (at-walking v done rest s stale C fut calm cnt) = labelling-open walking l H v done rest s stale (eqb-false walking finished refl) (eqb-false walking rolledBack refl) C
   labelling-of l H (at-restoring v done rest s stale C fut calm cnt) = labelling-open restoring l H v done rest s stale (eqb-false restoring finished refl) (eqb-false restoring rolledBack refl) C
   labelling-of l H (at-rolling v done rest s stale C sh ro cnt) = labelling-open rollingBack l H v done rest s stale (eqb-false rollingBack finished refl) (eqb-false rollingBack rolledBack refl) C
   labelling-of l H (at-end K e calm cnt) =
-      let figure : l .config .circular ≡ circularOf (graphOf g) (allOf g start) = ap (λ (w : Config). w .circular) (K .is-config) ∙ ap (circularOf (graphOf g)) e in
-      let C = circular (graphOf g) [] start R .0 in
+      let figure : l .config .circular ≡ circularOf (graphOf g) (allOf g before start) = ap (λ (w : Config). w .circular) (K .is-config) ∙ ap (circularOf (graphOf g)) e in
+      let C = circular (graphOf g) before start R .0 in
       record {
-        events = λ q. subst (DepthFirst (graphOf g) [] start) (sym (history-is l H ∙ e)) (depth-relates (graphOf g) [] start R);
-        labels = λ q. ap (λ (w : Config). w .marks) (K .is-config) ∙ marks-now-end (g .n + g .m) (H .history) area (subst AllScanned (sym e) all-scanned) ∙ ap (λ (h : History). marksLeft (g .n + g .m) h area) (sym (history-is l H));
+        events = λ q. subst (DepthFirst (graphOf g) before start) (sym (history-is l H ∙ e)) (depth-relates (graphOf g) before start R);
+        labels = λ q. ap (λ (w : Config). w .marks) (K .is-config) ∙ marks-now-end (g .n + g .m) before (H .history) area (subst AllScanned (sym e) all-scanned) ∙ ap (λ (h : History). marksLeft (g .n + g .m) before h area) (sym (history-is l H));
         no-labels = λ q. absurd (eqb-false finished rolledBack refl (sym (ap (λ (w : Config). w .phase) (K .is-config)) ∙ q));
-        marks-now = λ n. ap (λ (w : Config). w .marks) (K .is-config) ∙ ap (λ (h : History). marksNow (g .n + g .m) h area) (sym (history-is l H));
+        marks-now = λ n. ap (λ (w : Config). w .marks) (K .is-config) ∙ ap (λ (h : History). marksNow (g .n + g .m) before h area) (sym (history-is l H));
         circular = ap (λ (w : Config). w .circular) (K .is-config) ∙ ap (circularOf (graphOf g)) (sym (history-is l H));
         circle = λ q. (λ c. C .0 (sym figure ∙ c), λ c. figure ∙ C .1 c);
+        blanks = blanks-now l (H .history) (ap (λ (w : Config). w .marks) (K .is-config)) (K .labels);
       }
   labelling-of l H (at-undone K x ro cnt) =
       record {
@@ -177,30 +188,31 @@ module _ (g : Image) (S : Sound g) (start : ℕ) (hs : Vertex (g .n) start) (are
         marks-now = λ n. absurd (n (ap (λ (w : Config). w .phase) (K .is-config)));
         circular = ap (λ (w : Config). w .circular) (K .is-config) ∙ ap (circularOf (graphOf g)) (sym (history-is l H));
         circle = λ q. absurd (eqb-false rolledBack finished refl (sym (ap (λ (w : Config). w .phase) (K .is-config)) ∙ q));
+        blanks = λ x p q. rw (ap (λ (w : Config). w .marks) (K .is-config)) (marks-first-blank (g .n + g .m) before area x p (omega arith));
       }
 
   -- ---- a run that is long enough
   -- While no order was taken: ended, or a step is to come and fewer were made than in all.
-  under-way : (t : Trace) → Holds g start area t → t .rolling ≡ false → (t .config .phase ≡ finished) ⊎ ((over (t .config) ≡ false) × (t .steps < 2 * advances (allOf g start) + scans (allOf g start)))
-  under-way t (at-walking v done rest s stale C fut calm cnt) z = let sh = subst (Short (t .history)) fut (short g s v rest (t .history)) in inr (ap over (C .is-config), omega (arith, sh .advanced, sh .to-scan))
-  under-way t (at-restoring v done rest s stale C fut calm cnt) z = let sh = subst (Short (t .history)) fut (short g s v [] (t .history)) in inr (ap over (C .is-config), omega (arith, sh .advanced, sh .to-scan))
+  under-way : (t : Trace) → Holds g before start area t → t .rolling ≡ false → (t .config .phase ≡ finished) ⊎ ((over (t .config) ≡ false) × (t .steps < 2 * advances (allOf g before start) + scans (allOf g before start)))
+  under-way t (at-walking v done rest s stale C fut calm cnt) z = let sh = subst (Short (t .history)) fut (short g before s v rest (t .history)) in inr (ap over (C .is-config), omega (arith, sh .advanced, sh .to-scan))
+  under-way t (at-restoring v done rest s stale C fut calm cnt) z = let sh = subst (Short (t .history)) fut (short g before s v [] (t .history)) in inr (ap over (C .is-config), omega (arith, sh .advanced, sh .to-scan))
   under-way t (at-rolling v done rest s stale C sh ro cnt) z = clash (sym ro ∙ z)
   under-way t (at-end K e calm cnt) z = inl (ap (λ (w : Config). w .phase) (K .is-config))
   under-way t (at-undone K x ro cnt) z = clash (sym ro ∙ z)
 
   -- Line A's advances are at most m, its scans at most n.
-  pub counts-most : (advances (allOf g start) ≤ g .m) × (scans (allOf g start) ≤ g .n)
+  pub counts-most : (advances (allOf g before start) ≤ g .m) × (scans (allOf g before start) ≤ g .n)
   counts-most =
-      let E = depth-first (graphOf g) [] start R .complete .labels in
-      let L = reached-labels (graphOf g) [] start R (labelled (allOf g start)) E in
-      let a = met-is g start R (labelled (allOf g start)) E in
-      let b = reached-is g start R (labelled (allOf g start)) E in
-      let p = met-most (image-owned g S) (labelled (allOf g start)) L in
-      let q = labels-few (g .n) (labelled (allOf g start)) L in
+      let E = depth-first (graphOf g) before start R .complete .labels in
+      let L = reached-labels (graphOf g) before start R (labelled (allOf g before start)) E in
+      let a = met-is g before start R (labelled (allOf g before start)) E in
+      let b = reached-is g before start R (labelled (allOf g before start)) E in
+      let p = met-most (image-owned g S) (labelled (allOf g before start)) L in
+      let q = labels-few (g .n) (labelled (allOf g before start)) L in
       (omega arith, omega arith)
 
   -- All steps are at most 2 m + n.
-  total-most : 2 * advances (allOf g start) + scans (allOf g start) ≤ 2 * g .m + g .n
+  total-most : 2 * advances (allOf g before start) + scans (allOf g before start) ≤ 2 * g .m + g .n
   total-most = omega (arith, counts-most .0, counts-most .1)
 
   -- A run that says spent or ended, and is not over, has spent its budget.
@@ -211,12 +223,12 @@ module _ (g : Image) (S : Sound g) (start : ℕ) (hs : Vertex (g .n) start) (are
       go true q = eqb-true made k q
       go false q = absurd (subst Free (e ∙ (λ i. cond (o i) ended (cond (q i) spent stuck))) f)
 
-  run-ends : (l : Line) (k : ℕ) → Held g S start hs area lm l → l .steps ≡ 0 → l .rolling ≡ false → 2 * g .m + g .n ≤ k → run k (l .config) .config .phase ≡ finished
+  run-ends : (l : Line) (k : ℕ) → Held g S before start hs blank area lm l → l .steps ≡ 0 → l .rolling ≡ false → 2 * g .m + g .n ≤ k → run k (l .config) .config .phase ≡ finished
   run-ends l k H z calm big =
-      let T : Ran g S start area (traceOf l (H .history)) (run k (l .config)) = run-holds g S start area k (traceOf l (H .history)) (H .holds) (H .calm) in
+      let T : Ran g S before start area (traceOf l (H .history)) (run k (l .config)) = run-holds g S before start area k (traceOf l (H .history)) (H .holds) (H .calm) in
       go (under-way (advance (traceOf l (H .history)) (run k (l .config))) (T .holds) calm) (T .free)
     where
-      go : (run k (l .config) .config .phase ≡ finished) ⊎ ((over (run k (l .config) .config) ≡ false) × (l .steps + run k (l .config) .steps < 2 * advances (allOf g start) + scans (allOf g start))) → Free (run k (l .config) .reason) → run k (l .config) .config .phase ≡ finished
+      go : (run k (l .config) .config .phase ≡ finished) ⊎ ((over (run k (l .config) .config) ≡ false) × (l .steps + run k (l .config) .steps < 2 * advances (allOf g before start) + scans (allOf g before start))) → Free (run k (l .config) .reason) → run k (l .config) .config .phase ≡ finished
       go (inl e) f = e
       go (inr q) f =
           let all : run k (l .config) .steps ≡ k = spent-all k (run k (l .config) .steps) (run k (l .config) .config) (run k (l .config) .reason) (run-stops k (l .config) .reason) f (q .0) in
@@ -224,48 +236,48 @@ module _ (g : Image) (S : Sound g) (start : ℕ) (hs : Vertex (g .n) start) (are
 
 -- ---- the claims
 -- What an opening taken leaves meets the invariant, and so does every list of calls.
-module _ (g : Image) (start : ℕ) (marks area : List ℕ) (h : openNumber g start marks area ≡ 0) where
-  pub profile : Profile g start (lent (g .n + g .m) marks ∷ lent 3 area ∷ [])
+module _ (g : Image) (before : List ℕ) (start : ℕ) (marks area : List ℕ) (h : openNumber g before start marks area ≡ 0) where
+  pub profile : Profile g before start (lent (g .n + g .m) marks ∷ lent 3 area ∷ [])
   unfolding openNumber
-  profile = profile-sound g start (lent (g .n + g .m) marks ∷ lent 3 area ∷ []) h
+  profile = profile-sound g before start (lent (g .n + g .m) marks ∷ lent 3 area ∷ []) h
 
   pub marks-long : g .n + g .m ≤ length marks
   marks-long = long (g .n + g .m) marks (lent 3 area ∷ []) (profile .areas-long) .0
 
-  pub held : (cs : List Call) → Held g (profile .sound) start (profile .start-vertex) marks marks-long (lineB folded g start marks area cs)
+  pub held : (cs : List Call) → Held g (profile .sound) before start (profile .start-vertex) (profile .listed) marks marks-long (lineB folded g before start marks area cs)
   unfolding opening
   held cs =
-      calls-held g (profile .sound) start (profile .start-vertex) marks marks-long (begun (opening g start marks area)) cs
-      (opened-held g (profile .sound) start (profile .start-vertex) marks marks-long (begun (opening g start marks area))
-      (reply (λ r. r .config ≡ openedAt g start marks) refl)
+      calls-held g (profile .sound) before start (profile .start-vertex) (profile .listed) marks marks-long (begun (opening g before start marks area)) cs
+      (opened-held g (profile .sound) before start (profile .start-vertex) (profile .listed) marks marks-long (begun (opening g before start marks area))
+      (reply (λ r. r .config ≡ openedAt g before start marks) refl)
       (reply (λ r. r .events ≡ event label 0 start ∷ []) refl)
       refl refl refl
       (reply (λ r. Faultless (r .answer ∷ [])) tt))
     where
-      reply : (P : Reply → Type 0) → P (openReply g start marks area) → P (opening g start marks area)
-      reply P p = subst (λ (k : ℕ). P (unless k (unopened g start marks) area (openReply g start marks area))) (sym h) p
+      reply : (P : Reply → Type 0) → P (openReply g before start marks area) → P (opening g before start marks area)
+      reply P p = subst (λ (k : ℕ). P (unless k (unopened g start marks) area (openReply g before start marks area))) (sym h) p
 
 pub agreement : Agreement folded
-agreement g start marks area h vs E cs =
-    let H = held g start marks area h cs in
-    let P = profile g start marks area h in
-    agrees-of g (P .sound) start (P .start-vertex) marks (marks-long g start marks area h) (lineB folded g start marks area cs) H (H .holds) vs E
+agreement g before start marks area h vs E cs =
+    let H = held g before start marks area h cs in
+    let P = profile g before start marks area h in
+    agrees-of g (P .sound) before start (P .start-vertex) (P .listed) marks (marks-long g before start marks area h) (lineB folded g before start marks area cs) H (H .holds) vs E
 
-ending : (g : Image) (start : ℕ) (marks area : List ℕ) → openNumber g start marks area ≡ 0 → (k : ℕ) (room : List ℕ) → 2 * g .m + g .n ≤ k → 6 * k ≤ length room → lineB folded g start marks area (runFor k room ∷ []) .config .phase ≡ finished
+ending : (g : Image) (before : List ℕ) (start : ℕ) (marks area : List ℕ) → openNumber g before start marks area ≡ 0 → (k : ℕ) (room : List ℕ) → 2 * g .m + g .n ≤ k → 6 * k ≤ length room → lineB folded g before start marks area (runFor k room ∷ []) .config .phase ≡ finished
 unfolding calls serve
-ending g start marks area h k room big long-room =
-    let P = profile g start marks area h in
-    let l = begun (opening g start marks area) in
-    let H = held g start marks area h [] in
-    let n : numberOf (begun (opening g start marks area) .config) (runFor k room) ≡ 0 = run-number g (P .sound) start (P .start-vertex) marks (marks-long g start marks area h) (begun (opening g start marks area)) k room H long-room in
+ending g before start marks area h k room big long-room =
+    let P = profile g before start marks area h in
+    let l = begun (opening g before start marks area) in
+    let H = held g before start marks area h [] in
+    let n : numberOf (begun (opening g before start marks area) .config) (runFor k room) ≡ 0 = run-number g (P .sound) before start (P .start-vertex) (P .listed) marks (marks-long g before start marks area h) (begun (opening g before start marks area)) k room H long-room in
     ap (λ (x : ℕ). unless x (l .config) room (perform (l .config) (runFor k room)) .config .phase) n
-    ∙ run-ends g (P .sound) start (P .start-vertex) marks (marks-long g start marks area h) (begun (opening g start marks area)) k H refl refl big
+    ∙ run-ends g (P .sound) before start (P .start-vertex) (P .listed) marks (marks-long g before start marks area h) (begun (opening g before start marks area)) k H refl refl big
 
 pub demand2 : Demand2 folded
 demand2 = record {
-  labelling = λ g start marks area h cs.
-      let H = held g start marks area h cs in
-      let P = profile g start marks area h in
-      labelling-of g (P .sound) start (P .start-vertex) marks (marks-long g start marks area h) (lineB folded g start marks area cs) H (H .holds);
+  labelling = λ g before start marks area h cs.
+      let H = held g before start marks area h cs in
+      let P = profile g before start marks area h in
+      labelling-of g (P .sound) before start (P .start-vertex) (P .listed) marks (marks-long g before start marks area h) (lineB folded g before start marks area cs) H (H .holds);
   ending = ending;
 }

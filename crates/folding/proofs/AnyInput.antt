@@ -2,15 +2,18 @@
 -- A call that is not refused stays within its areas.
 use mathlib.Core.Path.{_≡_, refl, sym, ap, _∙_, subst}
 use mathlib.Core.Logic.{_≢_}
-use mathlib.Core.Bool.{Bool, true, not, _&&_}
+use mathlib.Core.Bool.{Bool, true, cond, not, _&&_}
 use mathlib.Core.List.{List, [], _∷_}
 use Prim.Native.Nat.{ℕ, zero, suc, _+_, _*_, _≤_}
 use native.Mathlib.Omega.{arith}
 use lib.ListN.{length, drop}
-use borrow.Author.Tests.{not-false}
-use Rattle.lists.specs.Words.{overlay, cleared}
-use Rattle.lists.proofs.Words.{length-put, length-cleared, put-past, cleared-past}
+use lib.Dec.{leb}
+use borrow.Author.Tests.{not-false, ne-eqb}
+use Rattle.lists.specs.Words.{at, put, overlay}
+use Rattle.lists.proofs.Tests.{and-unit}
+use Rattle.lists.proofs.Words.{length-put, length-filled, put-past, filled-past, filled-same, cleared-filled}
 use Rattle.graphs.specs.Events.{Event, event, label, words}
+use Rattle.graphs.specs.Results.{activeMark, blankMark, restMark, unlessBlank, marksFirst}
 use Rattle.graphs.specs.Image.{Image}
 use Rattle.graphs.specs.Refusals.{firstOf, lent}
 use Rattle.graphs.proofs.Refusals.{all-false, long}
@@ -19,7 +22,7 @@ use Rattle.graphs.proofs.Room.{words-length}
 use Rattle.folding.specs.Machine.{Config, rollingBack, labelMark, canStep, step}
 use Rattle.folding.specs.Calls.{Reason, Answer, ran, taken, refused, Reply, refusing, unless, workAreas, runNumber, stepRefusals, stepNumber, inPhase, run, Call, runFor, single, rollBack, areaOf, numberOf, perform, serve, unopened, openNumber, openedAt, openReply, opening}
 use Rattle.folding.specs.Lines.{folded}
-use Rattle.folding.specs.Claims.{Judged, Within, Confined, Demand1, StepClaim, Tested, toldRun, RunClaim}
+use Rattle.folding.specs.Claims.{Judged, Within, Confined, Demand1, StepClaim, Tested, toldRun, RunClaim, NoBlanksClaim}
 use Rattle.folding.proofs.Passed.{passed, lengths}
 use Rattle.folding.proofs.Confined.{within-refl, Kept, step-kept, RunKept, run-kept}
 use Rattle.folding.proofs.Runs.{run-stops}
@@ -80,25 +83,25 @@ unless-confined : (k : ℕ) (w : Config) (area : List ℕ) (r : Reply) → (k �
 unless-confined zero w area r h = h refl
 unless-confined (suc k) w area r h = still w area (suc k)
 
-open-confined : (g : Image) (start : ℕ) (marks area : List ℕ) → openNumber g start marks area ≡ 0 → Confined (unopened g start marks) area (openReply g start marks area)
+open-confined : (g : Image) (before : List ℕ) (start : ℕ) (marks area : List ℕ) → openNumber g before start marks area ≡ 0 → Confined (unopened g start marks) area (openReply g before start marks area)
 unfolding openNumber
-open-confined g start marks area h =
-    let P = profile-sound g start (lent (g .n + g .m) marks ∷ lent 3 area ∷ []) h in
+open-confined g before start marks area h =
+    let P = profile-sound g before start (lent (g .n + g .m) marks ∷ lent 3 area ∷ []) h in
     let a = long (g .n + g .m) marks (lent 3 area ∷ []) (P .areas-long) in
     let b = long 3 area [] (a .1) in
     let s = P .start-vertex in
     let z : g .n + g .m + 0 ≡ g .n + g .m = omega arith in
-    confined (unopened g start marks) area taken 0 (event label 0 start ∷ []) (openedAt g start marks)
+    confined (unopened g start marks) area taken 0 (event label 0 start ∷ []) (openedAt g before start marks)
     (record {
       same-n = refl;
       same-m = refl;
       same-start = refl;
       after-length = refl;
       tail-length = refl;
-      marks-length = length-put 0 (cleared (g .n + g .m) marks) start (labelMark 1) ∙ length-cleared (g .n + g .m) marks (a .0);
+      marks-length = length-put 0 (marksFirst (g .n + g .m) before marks) start (labelMark 1) ∙ length-filled (unlessBlank before (λ x. 0)) (g .n + g .m) marks (a .0);
       after-past = refl;
       tail-past = refl;
-      marks-past = put-past 0 (g .n + g .m) (cleared (g .n + g .m) marks) start (labelMark 1) (s .0) (omega arith) ∙ subst (λ (k : ℕ). drop k (cleared (g .n + g .m) marks) ≡ drop k marks) z (cleared-past (g .n + g .m) 0 marks);
+      marks-past = put-past 0 (g .n + g .m) (marksFirst (g .n + g .m) before marks) start (labelMark 1) (s .0) (omega arith) ∙ subst (λ (k : ℕ). drop k (marksFirst (g .n + g .m) before marks) ≡ drop k marks) z (filled-past (unlessBlank before (λ x. 0)) (g .n + g .m) 0 marks);
     })
     (b .0)
 
@@ -106,16 +109,16 @@ open-confined g start marks area h =
 pub demand1 : Demand1 folded
 unfolding opening serve
 demand1 = record {
-  opening = λ g start marks area. judged (openNumber g start marks area) (unopened g start marks) area (openReply g start marks area) (λ k e. taken-not k e);
+  opening = λ g before start marks area. judged (openNumber g before start marks area) (unopened g start marks) area (openReply g before start marks area) (λ k e. taken-not k e);
   call = λ w c. judged (numberOf w c) w (areaOf c) (perform w c) (performed w c);
-  opening-confined = λ g start marks area. unless-confined (openNumber g start marks area) (unopened g start marks) area (openReply g start marks area) (open-confined g start marks area);
+  opening-confined = λ g before start marks area. unless-confined (openNumber g before start marks area) (unopened g start marks) area (openReply g before start marks area) (open-confined g before start marks area);
   call-confined = λ w c. unless-confined (numberOf w c) w (areaOf c) (perform w c) (perform-confined w c);
 }
 
 pub steps-as-defined : StepClaim folded
 unfolding opening serve
 steps-as-defined = record {
-  opened = λ g start marks area h. ap (λ (k : ℕ). unless k (unopened g start marks) area (openReply g start marks area)) h;
+  opened = λ g before start marks area h. ap (λ (k : ℕ). unless k (unopened g start marks) area (openReply g before start marks area)) h;
   stepped = λ w area h. ap (λ (k : ℕ). unless k w area (perform w (single area))) h;
   ordered = λ w h. ap (λ (k : ℕ). unless k w [] (perform w rollBack)) h;
 }

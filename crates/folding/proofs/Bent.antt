@@ -32,8 +32,8 @@ abbrev pub bentTail : Image → List Frame → List ℕ
 bentTail g s = bentTails (λ du fs. top du (parent fs)) (g .n) (g .tail) s
 
 -- The state, links and marks at a place, after the events h; `area` is the mark area as it was lent, `stale` the word a(v).
-abbrev pub configAt : Image → ℕ → List ℕ → ℕ → ℕ → List ℕ → List ℕ → List Frame → ℕ → History → Config
-configAt g start area ph v done rest s stale h = record { n = g .n; m = g .m; start = start; v = v; e = head0 rest; f = top done (parent s); phase = ph; next = suc (length (labelled h)); circular = circularOf (graphOf g) h; after = bend done (parent s) (put 0 (bentAfter g s) v stale); tail = bentTail g s; marks = marksNow (g .n + g .m) h area }
+abbrev pub configAt : Image → List ℕ → ℕ → List ℕ → ℕ → ℕ → List ℕ → List ℕ → List Frame → ℕ → History → Config
+configAt g before start area ph v done rest s stale h = record { n = g .n; m = g .m; start = start; v = v; e = head0 rest; f = top done (parent s); phase = ph; next = suc (length (labelled h)); circular = circularOf (graphOf g) h; after = bend done (parent s) (put 0 (bentAfter g s) v stale); tail = bentTail g s; marks = marksNow (g .n + g .m) before h area }
 
 -- The same where the search has ended or is rolled back.
 abbrev pub configEnd : Image → ℕ → ℕ → ℕ → List ℕ → History → Config

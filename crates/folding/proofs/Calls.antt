@@ -6,22 +6,23 @@ use mathlib.Core.List.{List, [], _∷_, _++_, append-nil, reverse, reverseAux}
 use Prim.Native.Nat.{ℕ, suc, _+_, _*_, _≤_}
 use native.Mathlib.Omega.{arith}
 use native.Mathlib.Nat.{add-zero}
-use lib.ListN.{length}
+use lib.ListN.{length, length-append}
 use lib.Dec.{ltb, leb}
 use borrow.Author.Tests.{eqb-false, le-leb, le-ltb, ne-eqb}
 use Rattle.lists.specs.Members.{Mem, here}
-use Rattle.lists.specs.Words.{at, put, cleared}
+use Rattle.lists.specs.Words.{at, put}
 use Rattle.lists.proofs.Tests.{clash, or-true, or-none}
 use Rattle.lists.proofs.Members.{mem-nil}
-use Rattle.lists.proofs.Words.{length-put, put-at, length-cleared}
+use Rattle.lists.proofs.Words.{length-put, put-at, length-filled}
 use Rattle.graphs.specs.Nodes.{Vertex}
 use Rattle.graphs.specs.Events.{Event, event, label, History, _▸_, labelled}
-use Rattle.graphs.specs.Results.{marksNow}
+use Rattle.graphs.specs.Results.{unlessBlank, marksFirst, marksNow}
 use Rattle.graphs.specs.Image.{Image, edgesOf, graphOf}
 use Rattle.graphs.specs.Refusals.{Refusal, refuse, firstOf, verticesOut, edgesOut, vertexOut}
 use Rattle.graphs.proofs.Nodes.{vertex-yes}
 use Rattle.graphs.proofs.Labels.{Labels, labels-few}
 use Rattle.graphs.proofs.Sound.{Sound}
+use Rattle.graphs.proofs.Blanks.{Listed}
 use Rattle.graphs.proofs.Room.{profile-ready}
 use Rattle.graphs.proofs.Places.{Frame, parent, finishing, scene-first}
 use Rattle.graphs.proofs.Results.{marks-now-first, marks-now-length}
@@ -42,11 +43,11 @@ use Rattle.folding.proofs.Running.{since-none, Calm, calm-more, Free, R
 abbrev pub traceOf : Line → History → Trace
 traceOf l h = record { config = l .config; history = h; steps = l .steps; rolling = l .rolling; since = l .since }
 
-module _ (g : Image) (S : Sound g) (start : ℕ) (hs : Vertex (g .n) start) (area : List ℕ) (long : g .n + g .m ≤ length area) where
+module _ (g : Image) (S : Sound g) (before : List ℕ) (start : ℕ) (hs : Vertex (g .n) start) (blank : Listed (g .n) before start) (area : List ℕ) (long : g .n + g .m ≤ length area) where
   pub record Held (l : Line) : Type 0 where
     pub history : History
     pub events : l .events ≡ reverse history
-    pub holds : Holds g start area (traceOf l history)
+    pub holds : Holds g before start area (traceOf l history)
     pub calm : Calm (traceOf l history)
     pub faultless : Faultless (l .answers)
 
@@ -77,23 +78,23 @@ module _ (g : Image) (S : Sound g) (start : ℕ) (hs : Vertex (g .n) start) (are
       }
 
   -- The next label number is in 2 to n + 1.
-  next-in : (ls : List ℕ) (v : ℕ) → Labels (g .n) ls → Mem v ls → (2 ≤ suc (length ls)) × (suc (length ls) ≤ suc (g .n))
+  next-in : (ls : List ℕ) (v : ℕ) → Labels (g .n) (ls ++ before) → Mem v ls → (2 ≤ suc (length ls)) × (suc (length ls) ≤ suc (g .n))
   next-in [] v L m = absurd (mem-nil m)
-  next-in (x ∷ ls) v L m = let h = labels-few (g .n) (x ∷ ls) L in omega arith
+  next-in (x ∷ ls) v L m = let h = labels-few (g .n) (x ∷ (ls ++ before)) L in let l = length-append ls before in omega arith
 
-  scene-sized : (ph : ℕ) (t : Trace) (v : ℕ) (done rest : List ℕ) (s : List Frame) (stale : ℕ) → (ltb 0 ph && leb ph 6) ≡ true → Scene g start area ph t v done rest s stale → Sized (t .config)
+  scene-sized : (ph : ℕ) (t : Trace) (v : ℕ) (done rest : List ℕ) (s : List Frame) (stale : ℕ) → (ltb 0 ph && leb ph 6) ≡ true → Scene g before start area ph t v done rest s stale → Sized (t .config)
   scene-sized ph t v done rest s stale k C =
       let P = C .placed in
       let h = t .history in
       let n = next-in (labelled h) v (C .labels) (C .seen v (here refl)) in
       subst Sized (sym (C .is-config))
-      (sized-at (configAt g start area ph v done rest s stale h) refl refl refl
+      (sized-at (configAt g before start area ph v done rest s stale h) refl refl refl
       (length-bend done (parent s) (put 0 (bentAfter g s) v stale) ∙ length-put 0 (bentAfter g s) v stale ∙ length-bentAfter g s)
       (length-bentTail g s)
-      (marks-now-length (g .n + g .m) h area long)
-      (fields-yes (configAt g start area ph v done rest s stale h) (record { v-in = vertex-yes (g .n) v (P .vertex); e-in = link-rest g S start v done rest (P .vertex) (P .list); f-in = node-top g S start v done rest s (P .vertex) (P .list) (P .above); phase-in = k; next-low = n .0; next-high = n .1; circular-in = circular-bit (graphOf g) h })))
+      (marks-now-length (g .n + g .m) before h area long)
+      (fields-yes (configAt g before start area ph v done rest s stale h) (record { v-in = vertex-yes (g .n) v (P .vertex); e-in = link-rest g S start v done rest (P .vertex) (P .list); f-in = node-top g S start v done rest s (P .vertex) (P .list) (P .above); phase-in = k; next-low = n .0; next-high = n .1; circular-in = circular-bit (graphOf g) h })))
 
-  closed-sized : (ph : ℕ) (marks : List ℕ) (t : Trace) → (ltb 0 ph && leb ph 6) ≡ true → length marks ≡ length area → Closed g start area ph marks t → Sized (t .config)
+  closed-sized : (ph : ℕ) (marks : List ℕ) (t : Trace) → (ltb 0 ph && leb ph 6) ≡ true → length marks ≡ length area → Closed g before start area ph marks t → Sized (t .config)
   closed-sized ph marks t k lm K =
       let h = t .history in
       let n = next-in (labelled h) start (K .labels) (K .seen) in
@@ -101,12 +102,12 @@ module _ (g : Image) (S : Sound g) (start : ℕ) (hs : Vertex (g .n) start) (are
       (sized-at (configEnd g start ph (K .e) marks h) refl refl refl refl refl lm
       (fields-yes (configEnd g start ph (K .e) marks h) (record { v-in = vertex-yes (g .n) start hs; e-in = K .link; f-in = le-leb 0 (g .n + g .m) (omega arith); phase-in = k; next-low = n .0; next-high = n .1; circular-in = circular-bit (graphOf g) h })))
 
-  sized : (t : Trace) → Holds g start area t → Sized (t .config)
+  sized : (t : Trace) → Holds g before start area t → Sized (t .config)
   sized t (at-walking v done rest s stale C fut calm cnt) = scene-sized walking t v done rest s stale refl C
   sized t (at-restoring v done rest s stale C fut calm cnt) = scene-sized restoring t v done rest s stale refl C
   sized t (at-rolling v done rest s stale C sh ro cnt) = scene-sized rollingBack t v done rest s stale refl C
-  sized t (at-end K e calm cnt) = closed-sized finished (marksNow (g .n + g .m) (t .history) area) t refl (marks-now-length (g .n + g .m) (t .history) area long) K
-  sized t (at-undone K e ro cnt) = closed-sized rolledBack (cleared (g .n + g .m) area) t refl (length-cleared (g .n + g .m) area long) K
+  sized t (at-end K e calm cnt) = closed-sized finished (marksNow (g .n + g .m) before (t .history) area) t refl (marks-now-length (g .n + g .m) before (t .history) area long) K
+  sized t (at-undone K e ro cnt) = closed-sized rolledBack (marksFirst (g .n + g .m) before area) t refl (length-filled (unlessBlank before (λ x. 0)) (g .n + g .m) area long) K
 
   -- The number of a call that is lent links and marks: 3 where its event area is short, else its own.
   work-number : (w : Config) (k : ℕ) (events : List ℕ) (own : List Refusal) (b : Bool) → Sized w → ltb (length events) k ≡ b → stateNumber w (workAreas w k events) own ≡ cond b 3 (firstOf own)
@@ -122,7 +123,7 @@ module _ (g : Image) (S : Sound g) (start : ℕ) (hs : Vertex (g .n) start) (are
   refused-held l c k room ne o H = record {
     history = H .history;
     events = append-nil (l .events) ∙ H .events;
-    holds = subst (Holds g start area) (sym same) (H .holds);
+    holds = subst (Holds g before start area) (sym same) (H .holds);
     calm = λ e. calm-more (traceOf l (H .history)) 0 (sym (or-none (l .rolling)) ∙ ap (λ (b : Bool). l .rolling || b) (sym o) ∙ e);
     faultless = (ne, H .faultless);
   }
@@ -140,17 +141,17 @@ module _ (g : Image) (S : Sound g) (start : ℕ) (hs : Vertex (g .n) start) (are
   run-held l k room H =
       let r = run k (l .config) in
       let t = traceOf l (H .history) in
-      let R : Ran g S start area (traceOf l (H .history)) (run k (l .config)) = run-holds g S start area k (traceOf l (H .history)) (H .holds) (H .calm) in
+      let R : Ran g S before start area (traceOf l (H .history)) (run k (l .config)) = run-holds g S before start area k (traceOf l (H .history)) (H .holds) (H .calm) in
       record {
         history = reverseAux (r .events) (H .history);
         events = ap (λ (es : List Event). es ++ r .events) (H .events) ∙ in-order (r .events) (H .history);
-        holds = subst (Holds g start area) (λ i. record { config = r .config; history = reverseAux (r .events) (H .history); steps = l .steps + r .steps; rolling = sym (or-none (l .rolling)) i; since = addIf (l .rolling) (l .since) (r .steps) }) (R .holds);
+        holds = subst (Holds g before start area) (λ i. record { config = r .config; history = reverseAux (r .events) (H .history); steps = l .steps + r .steps; rolling = sym (or-none (l .rolling)) i; since = addIf (l .rolling) (l .since) (r .steps) }) (R .holds);
         calm = λ e. calm-more (traceOf l (H .history)) (r .steps) (sym (or-none (l .rolling)) ∙ e);
         faultless = free-faultless (r .reason) (l .answers) (R .free) (H .faultless);
       }
 
   -- ---- a single step
-  step-held : (l : Line) (room : List ℕ) (H : Held l) (M : Moves g start area (traceOf l (H .history))) → Held (noted l (single room) (perform (l .config) (single room)))
+  step-held : (l : Line) (room : List ℕ) (H : Held l) (M : Moves g before start area (traceOf l (H .history))) → Held (noted l (single room) (perform (l .config) (single room)))
   step-held l room H M =
       let s = step (l .config) in
       let e : M .next ≡ step (l .config) = sym (M .goes .is) in
@@ -158,7 +159,7 @@ module _ (g : Image) (S : Sound g) (start : ℕ) (hs : Vertex (g .n) start) (are
       record {
         history = reverseAux (s .events) (H .history);
         events = ap (λ (es : List Event). es ++ s .events) (H .events) ∙ in-order (s .events) (H .history);
-        holds = subst (Holds g start area)
+        holds = subst (Holds g before start area)
             ((λ i. tick (traceOf l (H .history)) (e i))
             ∙ (λ i. record { config = s .config; history = reverseAux (s .events) (H .history); steps = one i; rolling = sym (or-none (l .rolling)) i; since = addIf (l .rolling) (l .since) 1 }))
             (M .holds);
@@ -171,16 +172,16 @@ module _ (g : Image) (S : Sound g) (start : ℕ) (hs : Vertex (g .n) start) (are
   abbrev ordered : Trace → Trace
   ordered t = record { config = inPhase rollingBack (t .config); history = t .history; steps = t .steps + 0; rolling = t .rolling || true; since = addIf (t .rolling) (t .since) 0 }
 
-  order-scene : (ph : ℕ) (t : Trace) (v : ℕ) (done rest : List ℕ) (s : List Frame) (stale : ℕ) → Scene g start area ph t v done rest s stale → Scene g start area rollingBack (ordered t) v done rest s stale
+  order-scene : (ph : ℕ) (t : Trace) (v : ℕ) (done rest : List ℕ) (s : List Frame) (stale : ℕ) → Scene g before start area ph t v done rest s stale → Scene g before start area rollingBack (ordered t) v done rest s stale
   order-scene ph t v done rest s stale C = record { placed = C .placed; labels = C .labels; seen = C .seen; scans = C .scans; is-config = ap (inPhase rollingBack) (C .is-config); light = C .light }
 
-  order-first : (ph : ℕ) (t : Trace) (v : ℕ) (done rest ahead : List ℕ) (s : List Frame) (stale : ℕ) → Scene g start area ph t v done rest s stale → finishing (graphOf g) s v ahead (t .history) ≡ allOf g start → t .rolling ≡ false → Holds g start area (ordered t)
+  order-first : (ph : ℕ) (t : Trace) (v : ℕ) (done rest ahead : List ℕ) (s : List Frame) (stale : ℕ) → Scene g before start area ph t v done rest s stale → finishing (graphOf g) before s v ahead (t .history) ≡ allOf g before start → t .rolling ≡ false → Holds g before start area (ordered t)
   order-first ph t v done rest ahead s stale C fut calm =
-      let sh : Short (t .history) (allOf g start) = subst (Short (t .history)) fut (short g s v ahead (t .history)) in
+      let sh : Short (t .history) (allOf g before start) = subst (Short (t .history)) fut (short g before s v ahead (t .history)) in
       let k = C .light in
       at-rolling v done rest s stale (order-scene ph t v done rest s stale C) sh (or-true (t .rolling)) (rw calm (omega arith))
 
-  order-holds : (t : Trace) → Holds g start area t → over (t .config) ≡ false → Holds g start area (ordered t)
+  order-holds : (t : Trace) → Holds g before start area t → over (t .config) ≡ false → Holds g before start area (ordered t)
   order-holds t (at-walking v done rest s stale C fut calm cnt) o = order-first walking t v done rest rest s stale C fut calm
   order-holds t (at-restoring v done rest s stale C fut calm cnt) o = order-first restoring t v done rest [] s stale C fut calm
   order-holds t (at-rolling v done rest s stale C sh ro cnt) o = at-rolling v done rest s stale (order-scene rollingBack t v done rest s stale C) sh (or-true (t .rolling)) (rw ro (omega arith))
@@ -220,7 +221,7 @@ module _ (g : Image) (S : Sound g) (start : ℕ) (hs : Vertex (g .n) start) (are
       ∙ (λ i. firstOf (refuse 8 (not (f i) && not (canStep (l .config))) ∷ refuse 9 (f i) ∷ [])))
       (refused-held l (single room) 9 room (eqb-false 9 8 refl) refl H)
   single-called l room H false false e f =
-      let M : Moves g start area (traceOf l (H .history)) = move g start area S (traceOf l (H .history)) (H .holds) f in
+      let M : Moves g before start area (traceOf l (H .history)) = move g before start area S (traceOf l (H .history)) (H .holds) f in
       by-number l (single room) 0
       (work-number (l .config) 6 room (stepRefusals (l .config)) false (sized (traceOf l (H .history)) (H .holds)) e
       ∙ (λ i. firstOf (refuse 8 (not (f i) && not (M .goes .can i)) ∷ refuse 9 (f i) ∷ [])))
@@ -242,9 +243,9 @@ module _ (g : Image) (S : Sound g) (start : ℕ) (hs : Vertex (g .n) start) (are
   calls-held l (c ∷ cs) H = calls-held (noted l c (serve (l .config) c)) cs (call-held l c H)
 
   -- ---- the opening
-  pub opened-held : (l : Line) → l .config ≡ openedAt g start area → l .events ≡ event label 0 start ∷ [] → l .steps ≡ 0 → l .rolling ≡ false → l .since ≡ 0 → Faultless (l .answers) → Held l
+  pub opened-held : (l : Line) → l .config ≡ openedAt g before start area → l .events ≡ event label 0 start ∷ [] → l .steps ≡ 0 → l .rolling ≡ false → l .since ≡ 0 → Faultless (l .answers) → Held l
   opened-held l ec ee es er ez f =
-      let F = scene-first (graphOf g) start (profile-ready g S start hs) in
+      let F = scene-first (graphOf g) before start (profile-ready g S before start hs blank) in
       record {
         history = [] ▸ event label 0 start;
         events = ee;
@@ -255,7 +256,7 @@ module _ (g : Image) (S : Sound g) (start : ℕ) (hs : Vertex (g .n) start) (are
               labels = F .labels;
               seen = F .seen;
               scans = λ x m. absurd (mem-nil m);
-              is-config = ec ∙ (λ i. record { n = g .n; m = g .m; start = start; v = start; e = S .first start hs i; f = 0; phase = walking; next = 2; circular = 0; after = sym (put-at 0 (g .after) start) i; tail = g .tail; marks = marks-now-first (g .n + g .m) area start (hs .0) (omega arith) i });
+              is-config = ec ∙ (λ i. record { n = g .n; m = g .m; start = start; v = start; e = S .first start hs i; f = 0; phase = walking; next = 2; circular = 0; after = sym (put-at 0 (g .after) start) i; tail = g .tail; marks = marks-now-first (g .n + g .m) before area start (blank .start-fresh) (hs .0) (omega arith) i });
               light = omega arith;
             })
             (F .future)

@@ -12,4 +12,4 @@ use Rattle.folding.specs.Cards.{cards, Answered}
 
 pub cards-hold : Answered cards
 unfolding at put afterOut tailOut listOut imageNumber searchNumber openNumber fieldsIn runNumber rollBackNumber edgesOf walkEdges search depthFirst traverseAll drain breadthFirst stepOf fits enact run serve opening calls
-cards-hold = (refl, (refl, (refl, (refl, (refl, (refl, (refl, (refl, (refl, (refl, (refl, (refl, (refl, (refl, (refl, (refl, (refl, (refl, (refl, (refl, (refl, tt)))))))))))))))))))))
+cards-hold = (refl, (refl, (refl, (refl, (refl, (refl, (refl, (refl, (refl, (refl, (refl, (refl, (refl, (refl, (refl, (refl, (refl, (refl, (refl, (refl, (refl, (refl, (refl, (refl, (refl, (refl, (refl, (refl, (refl, (refl, (refl, (refl, (refl, (refl, (refl, (refl, (refl, (refl, (refl, (refl, (refl, tt)))))))))))))))))))))))))))))))))))))))))

@@ -10,8 +10,9 @@ use lib.Dec.{eqb, ltb, leb}
 use borrow.Author.Tests.{eqb-false, ltb-false, leb-true, lt-ltb, le-leb, not-true}
 use Rattle.lists.specs.Words.{at}
 use Rattle.lists.proofs.Tests.{and-true, both}
-use Rattle.lists.proofs.Words.{length-put, length-cleared, put-past, cleared-past}
+use Rattle.lists.proofs.Words.{length-put, length-filled, put-past, filled-past}
 use Rattle.graphs.specs.Nodes.{Vertex, isVertex, isEdge, isLink, isNode}
+use Rattle.graphs.specs.Results.{restMark}
 use Rattle.graphs.proofs.Nodes.{vertex-is, edge-is, link-of-edge, link-not-null, link-node}
 use Rattle.folding.specs.Machine.{Config, walking, rollingBack, target, forward, fresh, tree, nontree, relink, retreat, finish, undo-tree, undo-open, pickStep, stepOf, closed, upward, labelMark, scanMark, circling, scannedMarks, fits, Stepped, relinked, enact, canStep, step}
 use Rattle.folding.specs.Calls.{over, Run, proceed, run}
@@ -116,7 +117,7 @@ module _ (w : Config) (K : Fields w) (L : w .n ≤ length (w .marks)) where
   unfolding enact
   undo-open-kept = record {
     fields = record { v-in = K .v-in; e-in = K .e-in; f-in = K .f-in; phase-in = refl; next-low = K .next-low; next-high = K .next-high; circular-in = K .circular-in };
-    within = record { same-n = refl; same-m = refl; same-start = refl; after-length = closed-length; tail-length = refl; marks-length = length-cleared (w .n) (w .marks) L; after-past = closed-past; tail-past = refl; marks-past = cleared-past (w .n) (w .m) (w .marks) };
+    within = record { same-n = refl; same-m = refl; same-start = refl; after-length = closed-length; tail-length = refl; marks-length = length-filled (λ x. restMark (at 0 (w .marks) x)) (w .n) (w .marks) L; after-past = closed-past; tail-past = refl; marks-past = filled-past (λ x. restMark (at 0 (w .marks) x)) (w .n) (w .m) (w .marks) };
     few = omega arith;
   }
 

@@ -12,8 +12,8 @@ use Rattle.graphs.proofs.DepthGrowth.{suffix-then}
 use Rattle.graphs.proofs.Places.{Frame, walk, finishing, edges-add, unwind-adds}
 
 -- All events of line A.
-abbrev pub allOf : Image → ℕ → History
-allOf g start = depthFirst (graphOf g) [] start
+abbrev pub allOf : Image → List ℕ → ℕ → History
+allOf g before start = depthFirst (graphOf g) before start
 
 -- ---- counts
 abbrev pub advances : History → ℕ
@@ -36,12 +36,12 @@ pub record Short (h all : History) : Type 0 where
   pub advanced : advances h ≤ advances all
   pub to-scan : scans h < scans all
 
-pub short : (g : Image) (s : List Frame) (v : ℕ) (rest : List ℕ) (h : History) → Short h (finishing (graphOf g) s v rest h)
-short g s v rest h =
-    let i : History = walk (graphOf g) v rest h in
-    let j : History = finishing (graphOf g) s v rest h in
-    let a : IsSuffix h i = edges-add (graphOf g) v rest h in
-    let b : IsSuffix (i ▸ event scan 0 v) j = unwind-adds (graphOf g) s (i ▸ event scan 0 v) in
+pub short : (g : Image) (before : List ℕ) (s : List Frame) (v : ℕ) (rest : List ℕ) (h : History) → Short h (finishing (graphOf g) before s v rest h)
+short g before s v rest h =
+    let i : History = walk (graphOf g) before v rest h in
+    let j : History = finishing (graphOf g) before s v rest h in
+    let a : IsSuffix h i = edges-add (graphOf g) before v rest h in
+    let b : IsSuffix (i ▸ event scan 0 v) j = unwind-adds (graphOf g) before s (i ▸ event scan 0 v) in
     let c : IsSuffix h j = IsSuffix·trans {l₁ = h} {l₂ = i ▸ event scan 0 v} {l₃ = j} (suffix-then (event scan 0 v) a) b in
     let t = suffix-count advance-tree c in
     let n = suffix-count advance-nontree c in

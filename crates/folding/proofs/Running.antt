@@ -51,21 +51,21 @@ free-cond : (b : Bool) → Free (cond b ended spent)
 free-cond true = tt
 free-cond false = tt
 
-module _ (g : Image) (S : Sound g) (start : ℕ) (area : List ℕ) where
+module _ (g : Image) (S : Sound g) (before : List ℕ) (start : ℕ) (area : List ℕ) where
   pub record Ran (t : Trace) (r : Run) : Type 0 where
-    pub holds : Holds g start area (advance t r)
+    pub holds : Holds g before start area (advance t r)
     pub free : Free (r .reason)
 
-  pub run-holds : (k : ℕ) (t : Trace) → Holds g start area t → Calm t → Ran t (run k (t .config))
+  pub run-holds : (k : ℕ) (t : Trace) → Holds g before start area t → Calm t → Ran t (run k (t .config))
   unfolding run
-  run-holds zero t H c = record { holds = subst (Holds g start area) (sym (advance-none t (cond (over (t .config)) ended spent) c)) H; free = free-cond (over (t .config)) }
+  run-holds zero t H c = record { holds = subst (Holds g before start area) (sym (advance-none t (cond (over (t .config)) ended spent) c)) H; free = free-cond (over (t .config)) }
   run-holds (suc k) t H c = go (over (t .config)) refl (λ M. run-holds k (tick t (M .next)) (M .holds) (calm-more t 1))
     where
-      go : (b : Bool) → over (t .config) ≡ b → ((M : Moves g start area t) → Ran (tick t (M .next)) (run k (M .next .config))) → Ran t (proceed (run k) b (canStep (t .config)) (t .config))
-      go true e ih = record { holds = subst (Holds g start area) (sym (advance-none t ended c)) H; free = tt }
+      go : (b : Bool) → over (t .config) ≡ b → ((M : Moves g before start area t) → Ran (tick t (M .next)) (run k (M .next .config))) → Ran t (proceed (run k) b (canStep (t .config)) (t .config))
+      go true e ih = record { holds = subst (Holds g before start area) (sym (advance-none t ended c)) H; free = tt }
       go false e ih =
-          let M : Moves g start area t = move g start area S t H e in
+          let M : Moves g before start area t = move g before start area S t H e in
           let N = ih M in
           let p : proceed (run k) false (canStep (t .config)) (t .config) ≡ onward (M .next .events) (run k (M .next .config)) =
           ap (λ (b : Bool). proceed (run k) false b (t .config)) (M .goes .can) ∙ ap (λ (s : Stepped). onward (s .events) (run k (s .config))) (M .goes .is) in
-          subst (Ran t) (sym p) (record { holds = subst (Holds g start area) (advance-onward t (M .next) (run k (M .next .config))) (N .holds); free = N .free })
+          subst (Ran t) (sym p) (record { holds = subst (Holds g before start area) (advance-onward t (M .next) (run k (M .next .config))) (N .holds); free = N .free })

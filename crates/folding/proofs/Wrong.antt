@@ -40,7 +40,7 @@ six = replicate 6 0
 -- It moves no link and emits nothing.
 abbrev pub idle : Walker
 idle = record {
-  opens = λ g start marks area. record { answer = taken; steps = 0; events = []; config = opening g start marks area .config; area = area };
+  opens = λ g before start marks area. record { answer = taken; steps = 0; events = []; config = opening g before start marks area .config; area = area };
   serves = λ w c. says (ran ended) 1 [] (inPhase finished w) c;
 }
 
@@ -50,19 +50,19 @@ some-event s = elim s [ ]
 
 pub idle-fails : Demand2 idle → ⊥
 unfolding at put edgesOf afterOut tailOut listOut searchNumber openNumber calls opening
-idle-fails d = some-event (d .labelling lone 1 (0 ∷ []) three refl (single six ∷ []) .events refl)
+idle-fails d = some-event (d .labelling lone [] 1 (0 ∷ []) three refl (single six ∷ []) .events refl)
 
 -- ---- the moves
 -- It searches wholly at its first step, the next label being 2, and then idles.
 abbrev rest : Config → List Event
-rest w = cond (eqb (w .next) 2) (drop 1 (lineA (record { n = w .n; m = w .m; after = w .after; tail = w .tail }) (w .start))) []
+rest w = cond (eqb (w .next) 2) (drop 1 (lineA (record { n = w .n; m = w .m; after = w .after; tail = w .tail }) [] (w .start))) []
 
 abbrev pub eager : Walker
 eager = record { opens = opening; serves = λ w c. says taken 1 (rest w) w c }
 
 pub eager-fails : StepClaim eager → ⊥
 unfolding at put edgesOf walkEdges search depthFirst stepOf fits enact fieldsIn stepNumber
-eager-fails d = let z : _≡_ {A = ℕ} 3 2 = ap (λ (r : Reply). length (r .events)) (d .stepped (openedAt loop 1 (0 ∷ 0 ∷ [])) six refl) in omega arith
+eager-fails d = let z : _≡_ {A = ℕ} 3 2 = ap (λ (r : Reply). length (r .events)) (d .stepped (openedAt loop [] 1 (0 ∷ 0 ∷ [])) six refl) in omega arith
 
 -- ---- the run's tests
 -- It says spent with steps left: it makes one step fewer than allowed.
@@ -78,7 +78,7 @@ hasty = record { opens = opening; serves = λ w c. says (ran spent) (perform w (
 pub hasty-fails : RunClaim hasty → ⊥
 unfolding at put stepOf fits enact run fieldsIn runNumber
 hasty-fails d =
-    let (why, says-why, t) = d (openedAt loop 1 (0 ∷ 0 ∷ [])) 1 six refl in
+    let (why, says-why, t) = d (openedAt loop [] 1 (0 ∷ 0 ∷ [])) 1 six refl in
     let e : ran spent ≡ ran stuck = says-why ∙ ap ran (t .reason) in
     (let z : _≡_ {A = ℕ} 0 1 = cc in omega arith)
 
@@ -92,7 +92,7 @@ reason-of e = cc
 pub jammed-fails : RunClaim jammed → ⊥
 unfolding at put stepOf fits fieldsIn runNumber
 jammed-fails d =
-    let (why, says-why, t) = d (openedAt loop 1 (0 ∷ 0 ∷ [])) 1 six refl in
+    let (why, says-why, t) = d (openedAt loop [] 1 (0 ∷ 0 ∷ [])) 1 six refl in
     clash (t .jammed (reason-of (sym says-why)))
 
 -- ---- demand 3's total
@@ -103,17 +103,17 @@ inventor = record { opens = opening; serves = λ w c. says (serve w c .answer) (
 pub inventor-fails : Agreement inventor → ⊥
 unfolding at put edgesOf afterOut tailOut listOut searchNumber openNumber walkEdges search depthFirst stepOf fits enact fieldsIn stepNumber run serve calls opening
 inventor-fails d =
-    let P = profile-sound lone 1 [] refl in
-    let R : Ready (graphOf lone) [] 1 = profile-ready lone (P .sound) 1 (P .start-vertex) in
+    let P = profile-sound lone [] 1 [] refl in
+    let R : Ready (graphOf lone) [] 1 = profile-ready lone (P .sound) [] 1 (P .start-vertex) (P .listed) in
     let E : Reached (graphOf lone) [] 1 (labelled (depthFirst (graphOf lone) [] 1)) = depth-first (graphOf lone) [] 1 R .complete .labels in
-    let z : _≡_ {A = ℕ} 2 1 = d lone 1 (0 ∷ []) three refl (1 ∷ []) E (single six ∷ []) .ends refl .0 refl in
+    let z : _≡_ {A = ℕ} 2 1 = d lone [] 1 (0 ∷ []) three refl (1 ∷ []) E (single six ∷ []) .ends refl .0 refl in
     omega arith
 
 -- ---- demand 2, for all profiles
 -- It has the same list for all profiles.
 abbrev pub constant : Walker
 constant = record {
-  opens = λ g start marks area. record { answer = taken; steps = 0; events = event label 0 1 ∷ []; config = opening g start marks area .config; area = area };
+  opens = λ g before start marks area. record { answer = taken; steps = 0; events = event label 0 1 ∷ []; config = opening g before start marks area .config; area = area };
   serves = λ w c. says (ran ended) 1 (event scan 0 1 ∷ []) (inPhase finished w) c;
 }
 
@@ -124,17 +124,17 @@ pair = record { n = 2; m = 0; after = 0 ∷ 0 ∷ []; tail = [] }
 pub constant-fails : Demand2 constant → ⊥
 unfolding at put edgesOf afterOut tailOut listOut searchNumber openNumber walkEdges search depthFirst calls opening
 constant-fails d =
-    let P = profile-sound pair 2 [] refl in
-    let R : Ready (graphOf pair) [] 2 = profile-ready pair (P .sound) 2 (P .start-vertex) in
-    let e = depth-first (graphOf pair) [] 2 R .one _ .0 (d .labelling pair 2 (0 ∷ 0 ∷ []) three refl (single six ∷ []) .events refl) in
+    let P = profile-sound pair [] 2 [] refl in
+    let R : Ready (graphOf pair) [] 2 = profile-ready pair (P .sound) [] 2 (P .start-vertex) (P .listed) in
+    let e = depth-first (graphOf pair) [] 2 R .one _ .0 (d .labelling pair [] 2 (0 ∷ 0 ∷ []) three refl (single six ∷ []) .events refl) in
     let z : _≡_ {A = ℕ} 1 2 = ap (λ (h : History). sumOf (λ x. x) (labelled h)) e in
     omega arith
 
 -- ---- the table's conditions
 -- It turns all back.
 abbrev pub refuser : Walker
-refuser = record { opens = λ g start marks area. refusing 9 (unopened g start marks) area; serves = λ w c. refusing 9 w (areaOf c) }
+refuser = record { opens = λ g before start marks area. refusing 9 (unopened g start marks) area; serves = λ w c. refusing 9 w (areaOf c) }
 
 pub refuser-fails : Demand1 refuser → ⊥
 unfolding at put fieldsIn rollBackNumber
-refuser-fails d = d .call (openedAt lone 1 (0 ∷ [])) rollBack 9 refl
+refuser-fails d = d .call (openedAt lone [] 1 (0 ∷ [])) rollBack 9 refl

@@ -3,9 +3,10 @@ use mathlib.Core.Bool.{Bool, true, false, cond, _&&_, _||_, not}
 use mathlib.Core.List.{List, [], _∷_, _++_}
 use Prim.Native.Nat.{ℕ, zero, suc, _+_, _*_}
 use lib.Dec.{eqb, ltb, leb}
-use Rattle.lists.specs.Words.{at, put, overlay, cleared}
+use Rattle.lists.specs.Words.{at, put, overlay}
 use Rattle.graphs.specs.Nodes.{isVertex, isLink, isNode}
 use Rattle.graphs.specs.Events.{Event, event, label, words}
+use Rattle.graphs.specs.Results.{marksFirst}
 use Rattle.graphs.specs.Image.{Image}
 use Rattle.graphs.specs.Refusals.{Refusal, refuse, firstOf, Lent, lent, sizeRefusals, vertexOut, figureOut, searchNumber}
 use Rattle.folding.specs.Machine.{Config, walking, restoring, finished, rollingBack, rolledBack, accepted, labelMark, canStep, step}
@@ -142,18 +143,18 @@ serve w c = unless (numberOf w c) w (areaOf c) (perform w c)
 abbrev pub unopened : Image → ℕ → List ℕ → Config
 unopened g start marks = record { n = g .n; m = g .m; start = start; v = 0; e = 0; f = 0; phase = 0; next = 0; circular = 0; after = g .after; tail = g .tail; marks = marks }
 
--- The number of an opening: it is lent marks and three words for its event.
-unfoldable pub openNumber : Image → ℕ → List ℕ → List ℕ → ℕ
-openNumber g start marks area = searchNumber g start (lent (g .n + g .m) marks ∷ lent 3 area ∷ [])
+-- The number of an opening, with the elements already on the blank (document 02, item 7): it is lent marks and three words for its event.
+unfoldable pub openNumber : Image → List ℕ → ℕ → List ℕ → List ℕ → ℕ
+openNumber g before start marks area = searchNumber g before start (lent (g .n + g .m) marks ∷ lent 3 area ∷ [])
 
--- What an opening leaves: the marks are cleared and the start is labelled.
-abbrev pub openedAt : Image → ℕ → List ℕ → Config
-openedAt g start marks = record { n = g .n; m = g .m; start = start; v = start; e = at 0 (g .after) start; f = 0; phase = walking; next = 2; circular = 0; after = g .after; tail = g .tail; marks = put 0 (cleared (g .n + g .m) marks) start (labelMark 1) }
+-- What an opening leaves: the marks are 65,535 for the elements on the blank and 0 for the rest, and the start is labelled.
+abbrev pub openedAt : Image → List ℕ → ℕ → List ℕ → Config
+openedAt g before start marks = record { n = g .n; m = g .m; start = start; v = start; e = at 0 (g .after) start; f = 0; phase = walking; next = 2; circular = 0; after = g .after; tail = g .tail; marks = put 0 (marksFirst (g .n + g .m) before marks) start (labelMark 1) }
 
 -- An opening that is not refused.
-abbrev pub openReply : Image → ℕ → List ℕ → List ℕ → Reply
-openReply g start marks area = record { answer = taken; steps = 0; events = event label 0 start ∷ []; config = openedAt g start marks; area = overlay (words (event label 0 start ∷ [])) area }
+abbrev pub openReply : Image → List ℕ → ℕ → List ℕ → List ℕ → Reply
+openReply g before start marks area = record { answer = taken; steps = 0; events = event label 0 start ∷ []; config = openedAt g before start marks; area = overlay (words (event label 0 start ∷ [])) area }
 
 -- Any opening.
-unfoldable pub opening : Image → ℕ → List ℕ → List ℕ → Reply
-opening g start marks area = unless (openNumber g start marks area) (unopened g start marks) area (openReply g start marks area)
+unfoldable pub opening : Image → List ℕ → ℕ → List ℕ → List ℕ → Reply
+opening g before start marks area = unless (openNumber g before start marks area) (unopened g start marks) area (openReply g before start marks area)

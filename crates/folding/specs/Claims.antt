@@ -5,16 +5,17 @@ use mathlib.Core.Bool.{true, false, cond}
 use mathlib.Core.List.{List, [], _∷_, _++_, reverse, IsPrefix}
 use Prim.Native.Nat.{ℕ, zero, suc, _+_, _*_, _%_, _≤_, _<_}
 use lib.ListN.{length, drop}
-use lib.Dec.{eqb}
+use lib.Dec.{eqb, leb}
+use Rattle.lists.specs.Members.{Mem}
 use Rattle.lists.specs.Words.{at, put, overlay, cleared}
 use Rattle.graphs.specs.Graph.{Reached, met}
 use Rattle.graphs.specs.Events.{Kind, label, advance-tree, advance-nontree, retreat-nontree, retreat-tree, scan, traverse, Event, event, words}
 use Rattle.graphs.specs.Depth.{DepthFirst}
-use Rattle.graphs.specs.Results.{marksLeft, marksNow}
+use Rattle.graphs.specs.Results.{activeMark, blankMark, marksFirst, marksLeft, marksNow, marksRest}
 use Rattle.graphs.specs.Circles.{Circular, circularOf}
 use Rattle.graphs.specs.Image.{Image, graphOf}
-use Rattle.folding.specs.Machine.{Config, finished, rollingBack, rolledBack, forward, markAhead, Stepped, canStep, step}
-use Rattle.folding.specs.Calls.{Reason, ended, spent, stuck, Answer, ran, taken, refused, Reply, refusing, over, fieldsIn, Run, run, Call, runFor, single, areaOf, numberOf, perform, runNumber, stepNumber, openNumber, unopened, rollBack, rollBackNumber, openReply}
+use Rattle.folding.specs.Machine.{Config, finished, rollingBack, rolledBack, forward, markAhead, labelMark, unscanned, Stepped, canStep, step}
+use Rattle.folding.specs.Calls.{Reason, ended, spent, stuck, Answer, ran, taken, refused, Reply, refusing, over, fieldsIn, Run, run, Call, runFor, single, areaOf, numberOf, perform, runNumber, stepNumber, openNumber, unopened, rollBack, rollBackNumber, openedAt, openReply}
 use Rattle.folding.specs.Lines.{Walker, Line, lineA, lineB}
 
 -- ---- demand 1: the table's conditions
@@ -43,15 +44,18 @@ pub record Confined (w : Config) (area : List ℕ) (r : Reply) : Type 0 where
 
 -- Demand 1: every call, on any input at all, is judged by its number and touches only its areas.
 pub record Demand1 (W : Walker) : Type 0 where
-  pub opening : (g : Image) (start : ℕ) (marks area : List ℕ) → Judged (openNumber g start marks area) (unopened g start marks) area (W .opens g start marks area)
+  pub opening : (g : Image) (before : List ℕ) (start : ℕ) (marks area : List ℕ)
+      → Judged (openNumber g before start marks area) (unopened g start marks) area (W .opens g before start marks area)
   pub call : (w : Config) (c : Call) → Judged (numberOf w c) w (areaOf c) (W .serves w c)
-  pub opening-confined : (g : Image) (start : ℕ) (marks area : List ℕ) → Confined (unopened g start marks) area (W .opens g start marks area)
+  pub opening-confined : (g : Image) (before : List ℕ) (start : ℕ) (marks area : List ℕ)
+      → Confined (unopened g start marks) area (W .opens g before start marks area)
   pub call-confined : (w : Config) (c : Call) → Confined w (areaOf c) (W .serves w c)
 
 -- ---- the moves
 -- An opening, a single step and a roll-back order that are not refused are those of the definition.
 pub record StepClaim (W : Walker) : Type 0 where
-  pub opened : (g : Image) (start : ℕ) (marks area : List ℕ) → openNumber g start marks area ≡ 0 → W .opens g start marks area ≡ openReply g start marks area
+  pub opened : (g : Image) (before : List ℕ) (start : ℕ) (marks area : List ℕ) → openNumber g before start marks area ≡ 0
+      → W .opens g before start marks area ≡ openReply g before start marks area
   pub stepped : (w : Config) (area : List ℕ) → stepNumber w area ≡ 0 → W .serves w (single area) ≡ perform w (single area)
   pub ordered : (w : Config) → rollBackNumber w ≡ 0 → W .serves w rollBack ≡ perform w rollBack
 
@@ -59,7 +63,7 @@ pub record StepClaim (W : Walker) : Type 0 where
 abbrev pub KeepClaim : Type 0
 KeepClaim = (w : Config) → fieldsIn w ≡ true → w .n ≤ length (w .marks) → canStep w ≡ true → (fieldsIn (step w .config) ≡ true) × Within w (step w .config)
 
--- ---- marks and circular of a step (document 02, item 5)
+-- ---- marks and circular of a step (document 02, items 5 and 7)
 -- What one event leaves in the marks, where k is the next label number: labelling marks an element 32,768 plus its number, and its scan
 -- leaves the mark's remainder by 32,768.
 abbrev pub markBy : ℕ → Kind → ℕ → List ℕ → List ℕ
@@ -76,13 +80,22 @@ abbrev pub marksBy : ℕ → List Event → List ℕ → List ℕ
 marksBy k [] marks = marks
 marksBy k (event j r u ∷ es) marks = marksBy k es (markBy k j u marks)
 
--- Of a step on any words: marks change by its events alone, so a roll-back, which has none, leaves them alone before its last step; the
--- figure becomes 1 where the reference met leads to a mark of 32,768 or more, which counts as not yet scanned, and else it stays.
+-- The step is the last of a roll-back.
+abbrev pub EndsRollBack : Config → Type 0
+EndsRollBack w = (w .phase ≡ rollingBack) × (step w .config .phase ≡ rolledBack)
+
+-- Of a step on any words: marks change by its events alone, so a roll-back, which has none, leaves them alone before its last step; that one
+-- leaves 65,535 where it stood, 0 in the other marks of elements, and the marks past these. The figure becomes 1 where the reference met
+-- leads to a mark of 32,768 or more, which counts as not yet scanned, unless it is 65,535, that of an element on the blank; else it stays.
 pub record MarksClaim : Type 0 where
   pub marks : (w : Config) → step w .config .phase ≢ rolledBack → step w .config .marks ≡ marksBy (w .next) (step w .events) (w .marks)
   pub rolling : (w : Config) → w .phase ≡ rollingBack → step w .config .phase ≢ rolledBack → step w .config .marks ≡ w .marks
-  pub meets : (w : Config) → forward w ≡ true → 32768 ≤ markAhead w → step w .config .circular ≡ 1
+  pub blanks : (w : Config) → EndsRollBack w → (x : ℕ) → 0 < x → x ≤ w .n → at 0 (w .marks) x ≡ 65535 → at 0 (step w .config .marks) x ≡ 65535
+  pub others : (w : Config) → EndsRollBack w → (x : ℕ) → 0 < x → x ≤ w .n → at 0 (w .marks) x ≢ 65535 → at 0 (step w .config .marks) x ≡ 0
+  pub past : (w : Config) → EndsRollBack w → drop (w .n) (step w .config .marks) ≡ drop (w .n) (w .marks)
+  pub meets : (w : Config) → forward w ≡ true → 32768 ≤ markAhead w → markAhead w ≢ 65535 → step w .config .circular ≡ 1
   pub passes : (w : Config) → forward w ≡ true → markAhead w < 32768 → step w .config .circular ≡ w .circular
+  pub passes-blank : (w : Config) → forward w ≡ true → markAhead w ≡ 65535 → step w .config .circular ≡ w .circular
   pub back : (w : Config) → forward w ≡ false → step w .config .circular ≡ w .circular
 
 -- ---- the run's tests
@@ -121,21 +134,34 @@ ComposeClaim = (a b : ℕ) (w : Config) → joined (run a w) (run (suc b) (run a
 
 -- ---- demand 2: events and labels
 -- Ended, the events and marks are those of the depth-first search, and circular is 1 exactly where some element reached has a path of one
--- reference or more back to itself; rolled back, all marks are 0; until then each element labelled and not yet scanned has 32,768 more
--- than its number; at any time circular is 1 where a reference was met that leads to such an element.
-pub record Labelling (g : Image) (start : ℕ) (marks : List ℕ) (l : Line) : Type 0 where
-  pub events : l .config .phase ≡ finished → DepthFirst (graphOf g) [] start (reverse (l .events))
-  pub labels : l .config .phase ≡ finished → l .config .marks ≡ marksLeft (g .n + g .m) (reverse (l .events)) marks
-  pub no-labels : l .config .phase ≡ rolledBack → l .config .marks ≡ cleared (g .n + g .m) marks
-  pub marks-now : l .config .phase ≢ rolledBack → l .config .marks ≡ marksNow (g .n + g .m) (reverse (l .events)) marks
+-- reference or more back to itself, off the elements on the blank; rolled back, the marks are 65,535 for these and 0 elsewhere; until then
+-- each element labelled and not yet scanned has 32,768 more than its number; at any time circular is 1 where a reference was met that leads
+-- to such an element, and the marks of the elements on the blank, and no others, are 65,535.
+pub record Labelling (g : Image) (before : List ℕ) (start : ℕ) (marks : List ℕ) (l : Line) : Type 0 where
+  pub events : l .config .phase ≡ finished → DepthFirst (graphOf g) before start (reverse (l .events))
+  pub labels : l .config .phase ≡ finished → l .config .marks ≡ marksLeft (g .n + g .m) before (reverse (l .events)) marks
+  pub no-labels : l .config .phase ≡ rolledBack → l .config .marks ≡ marksFirst (g .n + g .m) before marks
+  pub marks-now : l .config .phase ≢ rolledBack → l .config .marks ≡ marksNow (g .n + g .m) before (reverse (l .events)) marks
   pub circular : l .config .circular ≡ circularOf (graphOf g) (reverse (l .events))
-  pub circle : l .config .phase ≡ finished → (l .config .circular ≡ 1) ↔ Circular (graphOf g) [] start
+  pub circle : l .config .phase ≡ finished → (l .config .circular ≡ 1) ↔ Circular (graphOf g) before start
+  pub blanks : (x : ℕ) → 0 < x → x ≤ g .n → (at 0 (l .config .marks) x ≡ 65535) ↔ Mem x before
 
 -- Demand 2 of the folded search: under every list of calls, and a run of 2 m + n steps ends.
 pub record Demand2 (W : Walker) : Type 0 where
-  pub labelling : (g : Image) (start : ℕ) (marks area : List ℕ) → openNumber g start marks area ≡ 0 → (cs : List Call) → Labelling g start marks (lineB W g start marks area cs)
-  pub ending : (g : Image) (start : ℕ) (marks area : List ℕ) → openNumber g start marks area ≡ 0 → (k : ℕ) (room : List ℕ) → 2 * g .m + g .n ≤ k → 6 * k ≤ length room
-      → lineB W g start marks area (runFor k room ∷ []) .config .phase ≡ finished
+  pub labelling : (g : Image) (before : List ℕ) (start : ℕ) (marks area : List ℕ) → openNumber g before start marks area ≡ 0 → (cs : List Call)
+      → Labelling g before start marks (lineB W g before start marks area cs)
+  pub ending : (g : Image) (before : List ℕ) (start : ℕ) (marks area : List ℕ) → openNumber g before start marks area ≡ 0
+      → (k : ℕ) (room : List ℕ) → 2 * g .m + g .n ≤ k → 6 * k ≤ length room
+      → lineB W g before start marks area (runFor k room ∷ []) .config .phase ≡ finished
+
+-- With no element on the blank, an opening clears all marks, and under no list of calls does a mark of an element read 65,535; where none
+-- does, the end of a roll-back clears the n marks of elements, and a mark of 32,768 or more counts as not yet scanned.
+pub record NoBlanksClaim (W : Walker) : Type 0 where
+  pub opened : (g : Image) (start : ℕ) (marks : List ℕ) → openedAt g [] start marks .marks ≡ put 0 (cleared (g .n + g .m) marks) start (labelMark 1)
+  pub unread : (g : Image) (start : ℕ) (marks area : List ℕ) → openNumber g [] start marks area ≡ 0 → (cs : List Call) (x : ℕ) → 0 < x → x ≤ g .n
+      → at 0 (lineB W g [] start marks area cs .config .marks) x ≢ blankMark
+  pub undone : (n : ℕ) (marks : List ℕ) → ((x : ℕ) → 0 < x → x ≤ n → at 0 marks x ≢ blankMark) → marksRest n marks ≡ cleared n marks
+  pub active-marks : (mark : ℕ) → mark ≢ blankMark → unscanned mark ≡ leb activeMark mark
 
 -- ---- demand 3: the agreement of the two lines
 -- No call was refused with 8, and no run said stuck.
@@ -148,13 +174,13 @@ Faultless (taken ∷ rest) = Faultless rest
 Faultless (refused k ∷ rest) = (k ≢ 8) × Faultless rest
 
 -- Line B, after a list of calls, beside line A; vs are the elements reached, in any order (`Complete.labels` has such a list).
-pub record Agrees (g : Image) (start : ℕ) (vs : List ℕ) (l : Line) : Type 0 where
+pub record Agrees (g : Image) (before : List ℕ) (start : ℕ) (vs : List ℕ) (l : Line) : Type 0 where
   -- B's events are the first of A's, in order.
-  pub first : IsPrefix (l .events) (lineA g start)
+  pub first : IsPrefix (l .events) (lineA g before start)
   -- While no roll-back order was taken, B has ended exactly when its steps are twice the references met plus the elements reached.
   pub ends : l .rolling ≡ false → (l .config .phase ≡ finished) ↔ (l .steps ≡ 2 * met (graphOf g) vs + length vs)
   -- Its events are then all of A's.
-  pub all : l .rolling ≡ false → l .config .phase ≡ finished → l .events ≡ lineA g start
+  pub all : l .rolling ≡ false → l .config .phase ≡ finished → l .events ≡ lineA g before start
   -- Once one was taken, the steps since the first are at most the references met plus the elements reached.
   pub bound : l .rolling ≡ true → l .since ≤ met (graphOf g) vs + length vs
   -- They are fewer while B is not rolled back.
@@ -163,6 +189,8 @@ pub record Agrees (g : Image) (start : ℕ) (vs : List ℕ) (l : Line) : Type 0 
   pub restored : (l .config .phase ≡ finished) ⊎ (l .config .phase ≡ rolledBack) → (l .config .after ≡ g .after) × (l .config .tail ≡ g .tail)
   pub faultless : Faultless (l .answers)
 
--- One claim about the whole list: every profile that an opening takes (sound, its areas long enough: SoundClaim), every list of calls.
+-- One claim about the whole list: every profile, with the elements on the blank, that an opening takes (sound, its areas long enough:
+-- SoundClaim), every list of calls.
 abbrev pub Agreement : Walker → Type 0
-Agreement W = (g : Image) (start : ℕ) (marks area : List ℕ) → openNumber g start marks area ≡ 0 → (vs : List ℕ) → Reached (graphOf g) [] start vs → (cs : List Call) → Agrees g start vs (lineB W g start marks area cs)
+Agreement W = (g : Image) (before : List ℕ) (start : ℕ) (marks area : List ℕ) → openNumber g before start marks area ≡ 0
+    → (vs : List ℕ) → Reached (graphOf g) before start vs → (cs : List Call) → Agrees g before start vs (lineB W g before start marks area cs)

@@ -8,13 +8,13 @@ use Rattle.graphs.specs.Image.{Image, graphOf}
 use Rattle.folding.specs.Machine.{Config}
 use Rattle.folding.specs.Calls.{Answer, ran, taken, refused, Reply, Call, runFor, single, rollBack, serve, opening}
 
--- The events of line A, in order: a depth-first search from the start, nothing being labelled before.
-abbrev pub lineA : Image → ℕ → List Event
-lineA g start = reverse (depthFirst (graphOf g) [] start)
+-- The events of line A, in order: a depth-first search from the start, the elements on the blank being labelled before.
+abbrev pub lineA : Image → List ℕ → ℕ → List Event
+lineA g before start = reverse (depthFirst (graphOf g) before start)
 
 -- Whatever can be opened and called as line B is: our folded search, and the wrong ones that the claims refute.
 pub record Walker : Type 0 where
-  pub opens : Image → ℕ → List ℕ → List ℕ → Reply
+  pub opens : Image → List ℕ → ℕ → List ℕ → List ℕ → Reply
   pub serves : Config → Call → Reply
 
 -- Our folded search.
@@ -57,6 +57,6 @@ calls W l (c ∷ cs) = calls W (noted l c (W .serves (l .config) c)) cs
 abbrev pub begun : Reply → Line
 begun r = record { config = r .config; events = r .events; steps = 0; rolling = false; since = 0; answers = r .answer ∷ [] }
 
--- Line B of a walker: an opening, with the marks and the event area it is lent, and a list of calls.
-abbrev pub lineB : Walker → Image → ℕ → List ℕ → List ℕ → List Call → Line
-lineB W g start marks area cs = calls W (begun (W .opens g start marks area)) cs
+-- Line B of a walker: an opening, with the same elements on the blank, the marks and the event area it is lent, and a list of calls.
+abbrev pub lineB : Walker → Image → List ℕ → ℕ → List ℕ → List ℕ → List Call → Line
+lineB W g before start marks area cs = calls W (begun (W .opens g before start marks area)) cs

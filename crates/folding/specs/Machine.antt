@@ -3,10 +3,10 @@ use mathlib.Core.Bool.{Bool, true, false, cond, _&&_, not}
 use mathlib.Core.List.{List, [], _∷_}
 use Prim.Native.Nat.{ℕ, suc, _+_, _%_}
 use lib.Dec.{eqb, ltb, leb}
-use Rattle.lists.specs.Words.{at, put, cleared}
+use Rattle.lists.specs.Words.{at, put}
 use Rattle.graphs.specs.Nodes.{isVertex, isEdge, isLink, isNode}
 use Rattle.graphs.specs.Events.{Event, event, label, advance-tree, advance-nontree, retreat-nontree, retreat-tree, scan}
-use Rattle.graphs.specs.Results.{activeMark}
+use Rattle.graphs.specs.Results.{activeMark, blankMark, marksRest}
 
 -- A state with its links and marks: v the element being scanned, e the reference next to traverse or 0, f the trailer, next the next label number.
 pub record Config : Type 0 where
@@ -68,7 +68,7 @@ markAhead w = at 0 (w .marks) (target w (w .e))
 abbrev pub fresh : Config → Bool
 fresh w = eqb (markAhead w) 0
 
--- ---- marks (document 02, item 5)
+-- ---- marks (document 02, items 5 and 7)
 -- Labelling marks an element 32,768 plus its number.
 abbrev pub labelMark : ℕ → ℕ
 labelMark k = activeMark + k
@@ -77,9 +77,9 @@ labelMark k = activeMark + k
 abbrev pub scanMark : ℕ → ℕ
 scanMark mark = mark % activeMark
 
--- A mark of 32,768 or more counts as not yet scanned.
+-- A mark of 32,768 or more counts as not yet scanned, but 65,535 is that of an element on the blank (item 7).
 abbrev pub unscanned : ℕ → Bool
-unscanned mark = leb activeMark mark
+unscanned mark = leb activeMark mark && not (eqb mark blankMark)
 
 -- t(e) counts as not yet scanned.
 abbrev pub circling : Config → Bool
@@ -159,7 +159,7 @@ enact w undo-tree = record {
   events = [];
 }
 enact w undo-open = record {
-  config = record { n = w .n; m = w .m; start = w .start; v = w .v; e = w .e; f = w .f; phase = rolledBack; next = w .next; circular = w .circular; after = closed w; tail = w .tail; marks = cleared (w .n) (w .marks) };
+  config = record { n = w .n; m = w .m; start = w .start; v = w .v; e = w .e; f = w .f; phase = rolledBack; next = w .next; circular = w .circular; after = closed w; tail = w .tail; marks = marksRest (w .n) (w .marks) };
   events = [];
 }
 

@@ -14,9 +14,10 @@ use Rattle.lists.proofs.Tests.{both, neither}
 use Rattle.lists.proofs.Counts.{all-at}
 use Rattle.graphs.specs.Nodes.{Vertex, Edge, isVertex}
 use Rattle.graphs.specs.ArrayForm.{ArrayForm, inOrder, arrayGraph}
-use Rattle.graphs.specs.Refusals.{Refusal, refuse, firstOf, Lent, lent, short, vertexOut, firstOut, tailOut, sizeRefusals, arrayAreas, arrayNumber}
+use Rattle.graphs.specs.Refusals.{Refusal, refuse, firstOf, Lent, lent, short, vertexOut, firstOut, tailOut, sizeRefusals, arrayAreas, blankRefusals, arrayNumber, arraySearchNumber}
 use Rattle.graphs.proofs.Nodes.{vertex-is}
-use Rattle.graphs.proofs.Refusals.{AllFalse, all-false, long}
+use Rattle.graphs.proofs.Refusals.{AllFalse, all-false, none-first, long}
+use Rattle.graphs.proofs.Blanks.{Listed, listed-of}
 use Rattle.graphs.proofs.Sound.{same-place}
 
 pub record ArraySound (a : ArrayForm) : Type 0 where
@@ -103,3 +104,20 @@ array-sound a start areas h =
 
     order : Ordered a
     order = ordered a (not-false _ (tests .1 .0))
+
+-- A profile in array form that a search does not refuse.
+pub record ArraySearched (a : ArrayForm) (before : List ℕ) (start : ℕ) (areas : List Lent) : Type 0 where
+  pub sound : ArraySound a
+  pub start-vertex : Vertex (a .n) start
+  pub listed : Listed (a .n) before start
+  pub areas-long : short areas ≡ false
+
+-- A search not refused is a query not refused, with a list in order.
+pub array-search-sound : (a : ArrayForm) (before : List ℕ) (start : ℕ) (areas : List Lent) → arraySearchNumber a before start areas ≡ 0 → ArraySearched a before start areas
+unfolding arrayNumber arraySearchNumber
+array-search-sound a before start areas h =
+    let asked = sizeRefusals (a .n) (a .m) (arrayAreas a ++ areas) ++ refuse 4 (vertexOut (a .n) start) ∷ refuse 5 (firstOut a) ∷ refuse 6 (tailOut (a .n) (a .m) (a .tails)) ∷ [] in
+    let z = all-false asked (blankRefusals (a .n) before start) (omega arith) h in
+    let x = all-false (blankRefusals (a .n) before start) [] (omega arith) (z .1) .0 in
+    let P = array-sound a start areas (none-first asked (z .0)) in
+    record { sound = P .sound; start-vertex = P .start-vertex; listed = listed-of (a .n) before start (x .0) (x .1 .0); areas-long = P .areas-long }

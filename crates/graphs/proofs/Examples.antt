@@ -32,7 +32,7 @@ breadth g = breadthFirst (graphOf g) [] 1
 abbrev lentArea : ℕ → List ℕ
 lentArea k = replicate k 9
 
-pub marks-printed : marksLeft 7 (depth printed) (lentArea 8) ≡ 1 ∷ 2 ∷ 3 ∷ 0 ∷ 0 ∷ 0 ∷ 0 ∷ 9 ∷ []
+pub marks-printed : marksLeft 7 [] (depth printed) (lentArea 8) ≡ 1 ∷ 2 ∷ 3 ∷ 0 ∷ 0 ∷ 0 ∷ 0 ∷ 9 ∷ []
 unfolding at edgesOf walkEdges search depthFirst
 marks-printed = refl
 

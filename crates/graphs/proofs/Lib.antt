@@ -1,6 +1,7 @@
 pub mod Nodes
 pub mod Labels
 pub mod Refusals
+pub mod Blanks
 pub mod Sound
 pub mod Arrays
 pub mod ArraySound
@@ -18,5 +19,6 @@ pub mod Queues
 pub mod Room
 pub mod Examples
 pub mod Trees
+pub mod Untouched
 pub mod Renamed
 pub mod CirclesRenamed

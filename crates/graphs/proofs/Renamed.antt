@@ -21,7 +21,7 @@ use Rattle.graphs.specs.Nodes.{Vertex}
 use Rattle.graphs.specs.Graph.{Graph}
 use Rattle.graphs.specs.Events.{Kind, event, label, advance-tree, advance-nontree, retreat-nontree, retreat-tree, scan, traverse, History, _▸_, same, named, known, count, tally, rename, renamed}
 use Rattle.graphs.specs.Search.{recorder, cross, walkEdges, search, depthFirst}
-use Rattle.graphs.specs.Results.{marksLeft, lastTree, incrementWord, incrementLeft}
+use Rattle.graphs.specs.Results.{unlessBlank, marksLeft, lastTree, incrementWord, incrementLeft}
 use Rattle.graphs.specs.Image.{Image, graphOf}
 use Rattle.graphs.specs.ArrayForm.{ArrayForm, arrayGraph, arrayLeft, numbersLeft}
 use Rattle.graphs.specs.Refusals.{Lent, imageNumber}
@@ -41,8 +41,8 @@ module _ (f : ℕ → ℕ) where
   count-renamed k [] = refl
   count-renamed k (event j r u ∷ h) = ap (bump (same k j)) (count-renamed k h)
 
-  pub marks-renamed : (k : ℕ) (h : History) (area : List ℕ) → marksLeft k (renamed f h) area ≡ marksLeft k h area
-  marks-renamed k h area = ap (λ (l : List ℕ). filled (λ x. rank x l) k area) (named-renamed label h)
+  pub marks-renamed : (k : ℕ) (before : List ℕ) (h : History) (area : List ℕ) → marksLeft k before (renamed f h) area ≡ marksLeft k before h area
+  marks-renamed k before h area = ap (λ (l : List ℕ). filled (unlessBlank before (λ x. rank x l)) k area) (named-renamed label h)
 
   pub tally-renamed : (h : History) → tally (renamed f h) ≡ tally h
   tally-renamed h = λ i. count-renamed label h i ∷ count-renamed advance-tree h i ∷ count-renamed advance-nontree h i ∷ count-renamed retreat-nontree h i ∷ count-renamed retreat-tree h i ∷ count-renamed scan h i ∷ count-renamed traverse h i ∷ []
@@ -194,7 +194,7 @@ module _ {A G : Graph} {f : ℕ → ℕ} (N : Renaming A G f) where
       λ i. cond (memb x (sym (named-renamed f label h) i)) (max 1 (sym e i)) 0
 
 -- ---- an image and its array form
-module _ (g : Image) (S : Sound g) (a : ArrayForm) (numbers : List ℕ) (start : ℕ) (same-graph : SameGraph g a numbers) (hs : Vertex (g .n) start) where
+module _ (g : Image) (S : Sound g) (a : ArrayForm) (numbers before : List ℕ) (start : ℕ) (same-graph : SameGraph g a numbers) (hs : Vertex (g .n) start) where
   abbrev f : ℕ → ℕ
   f = at (g .n) numbers
 
@@ -220,30 +220,30 @@ module _ (g : Image) (S : Sound g) (a : ArrayForm) (numbers : List ℕ) (start :
         targets = λ u r hu q. same-graph .targets r (let e = O .edge u r hu q in (omega arith, omega arith));
       }
 
-  same-events : renamed f (depthFirst A [] start) ≡ depthFirst (graphOf g) [] start
-  same-events = depth-renamed renaming [] start (let e = same-graph .same-n in (hs .0, omega arith))
+  same-events : renamed f (depthFirst A before start) ≡ depthFirst (graphOf g) before start
+  same-events = depth-renamed renaming before start (let e = same-graph .same-n in (hs .0, omega arith))
 
-  same-increments : (area : List ℕ) → incrementLeft A (depthFirst A [] start) area ≡ incrementLeft (graphOf g) (depthFirst (graphOf g) [] start) area
+  same-increments : (area : List ℕ) → incrementLeft A (depthFirst A before start) area ≡ incrementLeft (graphOf g) (depthFirst (graphOf g) before start) area
   same-increments area =
-      ap (λ (l : List ℕ). l ++ drop (a .n) area) (values-same (incrementWord A (depthFirst A [] start)) (incrementWord (graphOf g) (renamed f (depthFirst A [] start))) 0 (a .n) word)
+      ap (λ (l : List ℕ). l ++ drop (a .n) area) (values-same (incrementWord A (depthFirst A before start)) (incrementWord (graphOf g) (renamed f (depthFirst A before start))) 0 (a .n) word)
       ∙ (λ i. filled (incrementWord (graphOf g) (same-events i)) (same-graph .same-n i) area)
     where
-      word : (x : ℕ) → 0 < x → x ≤ 0 + a .n → incrementWord A (depthFirst A [] start) x ≡ incrementWord (graphOf g) (renamed f (depthFirst A [] start)) x
+      word : (x : ℕ) → 0 < x → x ≤ 0 + a .n → incrementWord A (depthFirst A before start) x ≡ incrementWord (graphOf g) (renamed f (depthFirst A before start)) x
       word x p q =
           let hx : Vertex (g .n) x = vertex-in x (p, omega arith) in
-          increment-renamed renaming x (p, omega arith) (S .once x hx) (λ m. (let e = S .edge x 0 hx m in omega arith)) (depthFirst A [] start) (depth-listed A [] start)
+          increment-renamed renaming x (p, omega arith) (S .once x hx) (λ m. (let e = S .edge x 0 hx m in omega arith)) (depthFirst A before start) (depth-listed A before start)
 
 pub same-search : RenamedClaim
-same-search g areas a numbers start h same-graph hs =
+same-search g areas a numbers before start h same-graph hs =
     let S = image-sound g areas h .0 in
-    let e = same-events g S a numbers start same-graph hs in
+    let e = same-events g S a numbers before start same-graph hs in
     record {
       events = e;
-      marks = λ k area. sym (marks-renamed (at (g .n) numbers) k (depthFirst (arrayGraph a) [] start) area) ∙ ap (λ (i : History). marksLeft k i area) e;
-      tallies = sym (tally-renamed (at (g .n) numbers) (depthFirst (arrayGraph a) [] start)) ∙ ap tally e;
-      increments = same-increments g S a numbers start same-graph hs;
+      marks = λ k area. sym (marks-renamed (at (g .n) numbers) k before (depthFirst (arrayGraph a) before start) area) ∙ ap (λ (i : History). marksLeft k before i area) e;
+      tallies = sym (tally-renamed (at (g .n) numbers) (depthFirst (arrayGraph a) before start)) ∙ ap tally e;
+      increments = same-increments g S a numbers before start same-graph hs;
     }
 
 -- So it is with what a conversion leaves in any areas.
-pub converted-search : (g : Image) (areas : List Lent) (firsts tails numbers : List ℕ) (start : ℕ) → imageNumber g areas ≡ 0 → Vertex (g .n) start → SameSearch g (arrayLeft g firsts tails) (numbersLeft g numbers) start
-converted-search g areas firsts tails numbers start h hs = same-search g areas (arrayLeft g firsts tails) (numbersLeft g numbers) start h (array-same g areas firsts tails numbers h) hs
+pub converted-search : (g : Image) (areas : List Lent) (firsts tails numbers before : List ℕ) (start : ℕ) → imageNumber g areas ≡ 0 → Vertex (g .n) start → SameSearch g (arrayLeft g firsts tails) (numbersLeft g numbers) before start
+converted-search g areas firsts tails numbers before start h hs = same-search g areas (arrayLeft g firsts tails) (numbersLeft g numbers) before start h (array-same g areas firsts tails numbers h) hs

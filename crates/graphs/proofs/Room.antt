@@ -5,7 +5,6 @@ use mathlib.Core.List.{List, [], _∷_, reverse}
 use Prim.Native.Nat.{ℕ, _+_, _*_, _≤_}
 use native.Mathlib.Omega.{arith}
 use lib.ListN.{length, length-reverse}
-use Rattle.lists.proofs.Members.{mem-nil}
 use Rattle.graphs.specs.Nodes.{Vertex}
 use Rattle.graphs.specs.Graph.{Graph, Closed, Reached, met}
 use Rattle.graphs.specs.Events.{Event, event, History, words, labelled}
@@ -15,7 +14,8 @@ use Rattle.graphs.specs.ArrayForm.{ArrayForm, arrayGraph}
 use Rattle.graphs.specs.Claims.{Ready, RoomClaim, ArrayRoomClaim}
 use Rattle.graphs.proofs.Labels.{Labels, labels-few, reached-labels}
 use Rattle.graphs.proofs.Sound.{Sound, profile-sound}
-use Rattle.graphs.proofs.ArraySound.{ArraySound, array-sound}
+use Rattle.graphs.proofs.ArraySound.{ArraySound, array-search-sound}
+use Rattle.graphs.proofs.Blanks.{Listed}
 use Rattle.graphs.proofs.Owned.{Owned, met-most, image-owned, array-owned}
 use Rattle.graphs.proofs.Depth.{depth-first, depth-length}
 use Rattle.graphs.proofs.Breadth.{breadth-first, breadth-length}
@@ -24,37 +24,37 @@ pub words-length : (es : List Event) → length (words es) ≡ 3 * length es
 words-length [] = refl
 words-length (event k r u ∷ es) = let h = words-length es in omega arith
 
--- A search may begin at any vertex, with nothing labelled before.
-pub closed-ready : {G : Graph} → Closed G → (start : ℕ) → Vertex (G .size) start → Ready G [] start
-closed-ready C start hs = record { closed = C; vertices = λ x m. absurd (mem-nil m); once = tt; start-vertex = hs; start-fresh = λ m. mem-nil m }
+-- A search may begin at any vertex that is not on the blank.
+pub closed-ready : {G : Graph} → Closed G → (before : List ℕ) (start : ℕ) → Vertex (G .size) start → Listed (G .size) before start → Ready G before start
+closed-ready C before start hs B = record { closed = C; vertices = B .vertices; once = B .once; start-vertex = hs; start-fresh = B .start-fresh }
 
-owned-ready : {G : Graph} {m : ℕ} → Owned G m → (start : ℕ) → Vertex (G .size) start → Ready G [] start
+owned-ready : {G : Graph} {m : ℕ} → Owned G m → (before : List ℕ) (start : ℕ) → Vertex (G .size) start → Listed (G .size) before start → Ready G before start
 owned-ready O = closed-ready (O .target)
 
-pub profile-ready : (g : Image) → Sound g → (start : ℕ) → Vertex (g .n) start → Ready (graphOf g) [] start
+pub profile-ready : (g : Image) → Sound g → (before : List ℕ) (start : ℕ) → Vertex (g .n) start → Listed (g .n) before start → Ready (graphOf g) before start
 profile-ready g S = owned-ready (image-owned g S)
 
-pub array-ready : (a : ArrayForm) → ArraySound a → (start : ℕ) → Vertex (a .n) start → Ready (arrayGraph a) [] start
+pub array-ready : (a : ArrayForm) → ArraySound a → (before : List ℕ) (start : ℕ) → Vertex (a .n) start → Listed (a .n) before start → Ready (arrayGraph a) before start
 array-ready a S = owned-ready (array-owned a S)
 
 -- Labelled vertices and edges met are at most n and m.
-module _ {G : Graph} {m : ℕ} (O : Owned G m) (start : ℕ) (hs : Vertex (G .size) start) where
-  fits-room : (h : History) → Reached G [] start (labelled h) → length h ≤ 2 * (met G (labelled h) + length (labelled h)) → length (words (reverse h)) ≤ 6 * (G .size + m)
+module _ {G : Graph} {m : ℕ} (O : Owned G m) (before : List ℕ) (start : ℕ) (hs : Vertex (G .size) start) (B : Listed (G .size) before start) where
+  fits-room : (h : History) → Reached G before start (labelled h) → length h ≤ 2 * (met G (labelled h) + length (labelled h)) → length (words (reverse h)) ≤ 6 * (G .size + m)
   fits-room h R k =
-      let L : Labels (G .size) (labelled h) = reached-labels G [] start (owned-ready O start hs) (labelled h) R in
+      let L : Labels (G .size) (labelled h) = reached-labels G before start (owned-ready O before start hs B) (labelled h) R in
       omega (arith, words-length (reverse h), length-reverse h, labels-few (G .size) (labelled h) L, met-most O (labelled h) L)
 
-  pub depth-room : length (words (reverse (depthFirst G [] start))) ≤ 6 * (G .size + m)
-  depth-room = let R = owned-ready O start hs in fits-room (depthFirst G [] start) (depth-first G [] start R .complete .labels) (omega (arith, depth-length G [] start R))
+  pub depth-room : length (words (reverse (depthFirst G before start))) ≤ 6 * (G .size + m)
+  depth-room = let R = owned-ready O before start hs B in fits-room (depthFirst G before start) (depth-first G before start R .complete .labels) (omega (arith, depth-length G before start R))
 
-  pub breadth-room : length (words (reverse (breadthFirst G [] start))) ≤ 6 * (G .size + m)
-  breadth-room = let R = owned-ready O start hs in fits-room (breadthFirst G [] start) (breadth-first G [] start R .complete .labels) (omega (arith, breadth-length G [] start R))
+  pub breadth-room : length (words (reverse (breadthFirst G before start))) ≤ 6 * (G .size + m)
+  breadth-room = let R = owned-ready O before start hs B in fits-room (breadthFirst G before start) (breadth-first G before start R .complete .labels) (omega (arith, breadth-length G before start R))
 
 pub room : RoomClaim
-room g start areas h =
-    let P = profile-sound g start areas h in
+room g before start areas h =
+    let P = profile-sound g before start areas h in
     let O = image-owned g (P .sound) in
-    (depth-room O start (P .start-vertex), breadth-room O start (P .start-vertex))
+    (depth-room O before start (P .start-vertex) (P .listed), breadth-room O before start (P .start-vertex) (P .listed))
 
 pub array-room : ArrayRoomClaim
-array-room a start areas h = let P = array-sound a start areas h in depth-room (array-owned a (P .sound)) start (P .start-vertex)
+array-room a before start areas h = let P = array-search-sound a before start areas h in depth-room (array-owned a (P .sound)) before start (P .start-vertex) (P .listed)

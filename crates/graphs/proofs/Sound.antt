@@ -18,9 +18,10 @@ use Rattle.lists.proofs.Counts.{count-append, count-mem, mem-count, count-once,
 use Rattle.graphs.specs.Nodes.{Vertex, Edge, isVertex, isLink}
 use Rattle.graphs.specs.Graph.{Closed}
 use Rattle.graphs.specs.Image.{Image, chain, lookedFor, edgesOf, to, graphOf, listsTo}
-use Rattle.graphs.specs.Refusals.{Refusal, refuse, firstOf, Lent, lent, short, verticesOut, edgesOut, vertexOut, afterOut, tailOut, listOut, sizeRefusals, imageAreas, imageRefusals, imageNumber, searchNumber}
+use Rattle.graphs.specs.Refusals.{Refusal, refuse, firstOf, Lent, lent, short, verticesOut, edgesOut, vertexOut, afterOut, tailOut, listOut, sizeRefusals, imageAreas, imageRefusals, blankRefusals, imageNumber, searchNumber}
 use Rattle.graphs.proofs.Nodes.{vertex-is, link-not-null}
-use Rattle.graphs.proofs.Refusals.{AllFalse, all-false, long}
+use Rattle.graphs.proofs.Refusals.{AllFalse, all-false, none-first, long}
+use Rattle.graphs.proofs.Blanks.{Listed, listed-of}
 
 abbrev pub head0 : List ℕ → ℕ
 head0 [] = 0
@@ -231,18 +232,21 @@ pub image-sound : (g : Image) (areas : List Lent) → imageNumber g areas ≡ 0 
 unfolding imageNumber
 image-sound g areas h = (sized-sound g areas (imageRefusals g) h (sizes g areas (imageRefusals g) h .1), tail-long g areas (imageRefusals g) h .1)
 
--- A profile that is not refused: a sound image, a start in it, areas long enough.
-pub record Profile (g : Image) (start : ℕ) (areas : List Lent) : Type 0 where
+-- A profile that is not refused: a sound image, a start in it, a list in order without the start, areas long enough.
+pub record Profile (g : Image) (before : List ℕ) (start : ℕ) (areas : List Lent) : Type 0 where
   pub sound : Sound g
   pub start-vertex : Vertex (g .n) start
+  pub listed : Listed (g .n) before start
   pub areas-long : short areas ≡ false
 
-pub profile-sound : (g : Image) (start : ℕ) (areas : List Lent) → searchNumber g start areas ≡ 0 → Profile g start areas
+pub profile-sound : (g : Image) (before : List ℕ) (start : ℕ) (areas : List Lent) → searchNumber g before start areas ≡ 0 → Profile g before start areas
 unfolding searchNumber
-profile-sound g start areas h =
-    let own = refuse 4 (vertexOut (g .n) start) ∷ imageRefusals g in
-    let z = all-false (refuse 4 (vertexOut (g .n) start) ∷ []) (imageRefusals g) (omega arith) (sizes g areas own h .1) in
-    record { sound = sized-sound g areas own h (z .1); start-vertex = vertex-is (g .n) start (not-false _ (z .0 .0)); areas-long = tail-long g areas own h .1 }
+profile-sound g before start areas h =
+    let own = refuse 4 (vertexOut (g .n) start) ∷ (imageRefusals g ++ blankRefusals (g .n) before start) in
+    let z = all-false (refuse 4 (vertexOut (g .n) start) ∷ []) (imageRefusals g ++ blankRefusals (g .n) before start) (omega arith) (sizes g areas own h .1) in
+    let y = all-false (imageRefusals g) (blankRefusals (g .n) before start) (omega arith) (z .1) in
+    let x = all-false (blankRefusals (g .n) before start) [] (omega arith) (y .1) .0 in
+    record { sound = sized-sound g areas own h (none-first (imageRefusals g) (y .0)); start-vertex = vertex-is (g .n) start (not-false _ (z .0 .0)); listed = listed-of (g .n) before start (x .0) (x .1 .0); areas-long = tail-long g areas own h .1 }
 
 -- The graph of a sound image.
 pub graph-closed : (g : Image) → Sound g → Closed (graphOf g)

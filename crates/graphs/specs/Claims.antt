@@ -1,24 +1,24 @@
 -- What is claimed of the two searches (demand 2), as types; proofs/ has the theorems of these names.
 use mathlib.Core.Path.{_≡_}
 use mathlib.Core.Logic.{_↔_}
-use mathlib.Core.Bool.{true, false}
+use mathlib.Core.Bool.{true, false, not, _||_}
 use mathlib.Core.List.{List, [], _∷_, _++_, map, reverse}
-use Prim.Native.Nat.{ℕ, suc, _+_, _*_, _≤_}
+use Prim.Native.Nat.{ℕ, suc, _+_, _*_, _≤_, _<_}
 use lib.ListN.{length}
 use Rattle.lists.specs.Members.{Mem, NoDup}
-use Rattle.lists.specs.Counts.{countIn, sumOf}
-use Rattle.lists.specs.Words.{at}
+use Rattle.lists.specs.Counts.{countIn, sumOf, rank}
+use Rattle.lists.specs.Words.{at, cleared, filled}
 use Rattle.graphs.specs.Nodes.{Vertex, Edge, isVertex}
 use Rattle.graphs.specs.Graph.{Graph, Closed, Reached, met}
-use Rattle.graphs.specs.Events.{History, _▸_, event, label, advance-tree, advance-nontree, retreat-tree, retreat-nontree, scan, traverse, labelled, scanned, traversed, count, tally, words, renamed}
+use Rattle.graphs.specs.Events.{Kind, History, _▸_, event, label, advance-tree, advance-nontree, retreat-tree, retreat-nontree, scan, traverse, named, edgesBy, labelled, scanned, traversed, count, tally, words, renamed}
 use Rattle.graphs.specs.Depth.{DepthFirst}
 use Rattle.graphs.specs.Breadth.{BreadthFirst}
 use Rattle.graphs.specs.Search.{recorder, search, depthFirst, drain, breadthFirst}
-use Rattle.graphs.specs.Results.{marksLeft, incrementLeft}
+use Rattle.graphs.specs.Results.{marksFirst, marksLeft, parentWord, incrementWord, incrementLeft}
 use Rattle.graphs.specs.Circles.{Circular, circularOf}
 use Rattle.graphs.specs.Image.{Image, edgesOf, to, graphOf}
 use Rattle.graphs.specs.ArrayForm.{ArrayForm, arrayGraph, arrayLeft, numbersLeft}
-use Rattle.graphs.specs.Refusals.{Lent, short, imageAreas, sound, imageNumber, searchNumber, arrayNumber}
+use Rattle.graphs.specs.Refusals.{Lent, firstOf, refuse, verticesOut, edgesOut, vertexOut, afterOut, tailOut, listOut, short, sizeRefusals, imageAreas, imageRefusals, rises, blanksOut, startBlank, sound, imageNumber, searchNumber, arrayNumber, arraySearchNumber}
 
 -- A search may begin: a graph, vertices labelled beforehand, and a start that is not among them.
 pub record Ready (G : Graph) (before : List ℕ) (start : ℕ) : Type 0 where
@@ -64,6 +64,22 @@ DepthFirstClaim = (G : Graph) (before : List ℕ) (start : ℕ) → Ready G befo
 abbrev pub BreadthFirstClaim : Type 0
 BreadthFirstClaim = (G : Graph) (before : List ℕ) (start : ℕ) → Ready G before start → BreadthClaim G before start (breadthFirst G before start)
 
+-- No event of any kind names a vertex labelled beforehand. (So none stands in the queue, which holds the vertices labelled.)
+abbrev pub Unnamed : List ℕ → History → Type 0
+Unnamed before h = (k : Kind) (x : ℕ) → Mem x before → Mem x (named k h) → ⊥
+
+-- Depth-first, the vertices labelled beforehand have no event of their own, every reference to one is nontree, and in the parent and
+-- increment areas they count as unreached.
+pub record Untouched (G : Graph) (before : List ℕ) (h : History) : Type 0 where
+  pub no-event : Unnamed before h
+  pub nontree : (r : ℕ) → Mem (G .to r) before → countIn r (edgesBy advance-nontree h) ≡ countIn r (traversed h)
+  pub parent : (x : ℕ) → Mem x before → parentWord G h x ≡ 0
+  pub increment : (x : ℕ) → Mem x before → incrementWord G h x ≡ 0
+
+-- Of every graph, vertices labelled beforehand and start, in either search.
+abbrev pub UntouchedClaim : Type 0
+UntouchedClaim = (G : Graph) (before : List ℕ) (start : ℕ) → Ready G before start → Untouched G before (depthFirst G before start) × Unnamed before (breadthFirst G before start)
+
 -- Of every graph, vertices labelled beforehand and start, the figure of the whole depth-first search is 1 exactly where some vertex reached
 -- has a path of one edge or more back to itself, off the vertices labelled beforehand, and else 0.
 abbrev pub CircularClaim : Type 0
@@ -72,21 +88,42 @@ CircularClaim = (G : Graph) (before : List ℕ) (start : ℕ) → Ready G before
 
 -- A search is taken exactly where the profile is sound and the areas are as long as stated.
 abbrev pub SoundClaim : Type 0
-SoundClaim = (g : Image) (start : ℕ) (areas : List Lent) → (searchNumber g start areas ≡ 0) ↔ ((sound g start ≡ true) × (short (imageAreas g ++ areas) ≡ false))
+SoundClaim = (g : Image) (before : List ℕ) (start : ℕ) (areas : List Lent)
+    → (searchNumber g before start areas ≡ 0) ↔ ((sound g before start ≡ true) × (short (imageAreas g ++ areas) ≡ false))
 
--- An image that the checker takes is a sound profile with every start in 1 to n.
+-- An image that the checker takes is a sound profile with every list and every start off it that are in order.
 abbrev pub CheckedClaim : Type 0
-CheckedClaim = (g : Image) (start : ℕ) (areas : List Lent) → (searchNumber g start areas ≡ 0) ↔ ((imageNumber g areas ≡ 0) × (isVertex (g .n) start ≡ true))
+CheckedClaim = (g : Image) (before : List ℕ) (start : ℕ) (areas : List Lent) → (searchNumber g before start areas ≡ 0)
+    ↔ ((imageNumber g areas ≡ 0) × (isVertex (g .n) start ≡ true) × (blanksOut (g .n) before ≡ false) × (startBlank start before ≡ false))
+
+-- Each number of a list is below all that follow it.
+abbrev pub StrictlyRising : List ℕ → Type 0
+StrictlyRising [] = Unit {0}
+StrictlyRising (x ∷ l) = ((y : ℕ) → Mem y l → x < y) × StrictlyRising l
+
+-- The test of a list of elements passes exactly where it is strictly rising and within 1 to n.
+abbrev pub RisesClaim : Type 0
+RisesClaim = (n : ℕ) (l : List ℕ) → (rises n 0 l ≡ true) ↔ (StrictlyRising l × ((x : ℕ) → Mem x l → Vertex n x))
+
+-- With no element on the blank, the number of a search, what is sound, and the marks are as document 01 alone has them.
+pub record NoBlanksClaim : Type 0 where
+  pub searches : (g : Image) (start : ℕ) (areas : List Lent)
+      → searchNumber g [] start areas ≡ firstOf (sizeRefusals (g .n) (g .m) (imageAreas g ++ areas) ++ refuse 4 (vertexOut (g .n) start) ∷ imageRefusals g)
+  pub array-searches : (a : ArrayForm) (start : ℕ) (areas : List Lent) → arraySearchNumber a [] start areas ≡ arrayNumber a start areas
+  pub sounds : (g : Image) (start : ℕ)
+      → sound g [] start ≡ not (verticesOut (g .n) || (edgesOut (g .m) || (vertexOut (g .n) start || (afterOut g || (tailOut (g .n) (g .m) (g .tail) || listOut g)))))
+  pub first : (k : ℕ) (area : List ℕ) → marksFirst k [] area ≡ cleared k area
+  pub marks : (k : ℕ) (h : History) (area : List ℕ) → marksLeft k [] h area ≡ filled (λ x. rank x (labelled h)) k area
 
 -- Of a sound profile, the events of either search fit 6 (n + m) words.
 abbrev pub RoomClaim : Type 0
-RoomClaim = (g : Image) (start : ℕ) (areas : List Lent) → searchNumber g start areas ≡ 0
-    → (length (words (reverse (depthFirst (graphOf g) [] start))) ≤ 6 * (g .n + g .m)) × (length (words (reverse (breadthFirst (graphOf g) [] start))) ≤ 6 * (g .n + g .m))
+RoomClaim = (g : Image) (before : List ℕ) (start : ℕ) (areas : List Lent) → searchNumber g before start areas ≡ 0
+    → (length (words (reverse (depthFirst (graphOf g) before start))) ≤ 6 * (g .n + g .m)) × (length (words (reverse (breadthFirst (graphOf g) before start))) ≤ 6 * (g .n + g .m))
 
 -- So do those of a depth-first search of an array form.
 abbrev pub ArrayRoomClaim : Type 0
-ArrayRoomClaim = (a : ArrayForm) (start : ℕ) (areas : List Lent) → arrayNumber a start areas ≡ 0
-    → length (words (reverse (depthFirst (arrayGraph a) [] start))) ≤ 6 * (a .n + a .m)
+ArrayRoomClaim = (a : ArrayForm) (before : List ℕ) (start : ℕ) (areas : List Lent) → arraySearchNumber a before start areas ≡ 0
+    → length (words (reverse (depthFirst (arrayGraph a) before start))) ≤ 6 * (a .n + a .m)
 
 -- The seven counts add up to the number of events.
 abbrev pub TallyClaim : Type 0
@@ -107,12 +144,13 @@ ArrayClaim = (g : Image) (areas : List Lent) (firsts tails numbers : List ℕ) �
 
 -- The two searches are the same: the list of edge numbers turns the events of the array form's into those of the image's; labels, tally
 -- and increments are equal as they stand.
-pub record SameSearch (g : Image) (a : ArrayForm) (numbers : List ℕ) (start : ℕ) : Type 0 where
-  pub events : renamed (at (g .n) numbers) (depthFirst (arrayGraph a) [] start) ≡ depthFirst (graphOf g) [] start
-  pub marks : (k : ℕ) (area : List ℕ) → marksLeft k (depthFirst (arrayGraph a) [] start) area ≡ marksLeft k (depthFirst (graphOf g) [] start) area
-  pub tallies : tally (depthFirst (arrayGraph a) [] start) ≡ tally (depthFirst (graphOf g) [] start)
-  pub increments : (area : List ℕ) → incrementLeft (arrayGraph a) (depthFirst (arrayGraph a) [] start) area ≡ incrementLeft (graphOf g) (depthFirst (graphOf g) [] start) area
+pub record SameSearch (g : Image) (a : ArrayForm) (numbers before : List ℕ) (start : ℕ) : Type 0 where
+  pub events : renamed (at (g .n) numbers) (depthFirst (arrayGraph a) before start) ≡ depthFirst (graphOf g) before start
+  pub marks : (k : ℕ) (area : List ℕ) → marksLeft k before (depthFirst (arrayGraph a) before start) area ≡ marksLeft k before (depthFirst (graphOf g) before start) area
+  pub tallies : tally (depthFirst (arrayGraph a) before start) ≡ tally (depthFirst (graphOf g) before start)
+  pub increments : (area : List ℕ) → incrementLeft (arrayGraph a) (depthFirst (arrayGraph a) before start) area ≡ incrementLeft (graphOf g) (depthFirst (graphOf g) before start) area
 
 -- So they are wherever the two forms are the same graph.
 abbrev pub RenamedClaim : Type 0
-RenamedClaim = (g : Image) (areas : List Lent) (a : ArrayForm) (numbers : List ℕ) (start : ℕ) → imageNumber g areas ≡ 0 → SameGraph g a numbers → Vertex (g .n) start → SameSearch g a numbers start
+RenamedClaim = (g : Image) (areas : List Lent) (a : ArrayForm) (numbers before : List ℕ) (start : ℕ)
+    → imageNumber g areas ≡ 0 → SameGraph g a numbers → Vertex (g .n) start → SameSearch g a numbers before start

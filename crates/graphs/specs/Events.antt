@@ -47,6 +47,11 @@ abbrev pub named : Kind → History → List ℕ
 named j [] = []
 named j (event k r u ∷ h) = consIf (same j k) u (named j h)
 
+-- The references that they name, the last of them first.
+abbrev pub edgesBy : Kind → History → List ℕ
+edgesBy j [] = []
+edgesBy j (event k r u ∷ h) = consIf (same j k) r (edgesBy j h)
+
 -- The elements labelled, the last of them first.
 abbrev pub labelled : History → List ℕ
 labelled h = named label h

@@ -1,9 +1,10 @@
 -- The conditions of document 01's table "Turned back" that need no state, and the order in which a call meets them.
-use mathlib.Core.Bool.{Bool, false, cond, not, _||_}
+use mathlib.Core.Bool.{Bool, true, false, cond, not, _&&_, _||_}
 use mathlib.Core.List.{List, [], _∷_, _++_}
 use Prim.Native.Nat.{ℕ, zero, suc, _+_}
 use lib.Dec.{eqb, ltb, leb}
 use lib.ListN.{length}
+use Rattle.lists.specs.Members.{memb}
 use Rattle.lists.specs.Counts.{countIn, allTo}
 use Rattle.lists.specs.Words.{at}
 use Rattle.graphs.specs.Nodes.{isVertex, isLink}
@@ -69,6 +70,19 @@ figureOut figure = leb 999999 figure
 abbrev pub textOut : ℕ → Bool
 textOut bytes = ltb 65536 bytes
 
+-- Strictly rising numbers over k, none over n.
+abbrev pub rises : ℕ → ℕ → List ℕ → Bool
+rises n k [] = true
+rises n k (x ∷ l) = (ltb k x && leb x n) && rises n x l
+
+-- 17: the list of elements already on the blank is not strictly rising, or leaves 1 to n.
+abbrev pub blanksOut : ℕ → List ℕ → Bool
+blanksOut n before = not (rises n 0 before)
+
+-- 18: the start is on that list.
+abbrev pub startBlank : ℕ → List ℕ → Bool
+startBlank start before = memb start before
+
 -- ---- the order of each call
 -- What every call with an image or a state meets first.
 abbrev pub sizeRefusals : ℕ → ℕ → List Lent → List Refusal
@@ -82,22 +96,30 @@ imageAreas g = lent (g .n + g .m) (g .after) ∷ lent (g .m) (g .tail) ∷ []
 abbrev pub imageRefusals : Image → List Refusal
 imageRefusals g = refuse 5 (afterOut g) ∷ refuse 6 (tailOut (g .n) (g .m) (g .tail)) ∷ refuse 7 (listOut g) ∷ []
 
--- A profile is sound where conditions 1, 2 and 4 to 7 are false of it and its start.
-unfoldable pub sound : Image → ℕ → Bool
-sound g start = not (verticesOut (g .n) || (edgesOut (g .m) || (vertexOut (g .n) start || (afterOut g || (tailOut (g .n) (g .m) (g .tail) || listOut g)))))
+-- The conditions on the list of elements already on the blank (document 02, item 7), after all others.
+abbrev pub blankRefusals : ℕ → List ℕ → ℕ → List Refusal
+blankRefusals n before start = refuse 17 (blanksOut n before) ∷ refuse 18 (startBlank start before) ∷ []
+
+-- A profile is sound where conditions 1, 2, 4 to 7, 17 and 18 are false of it, the elements already on the blank, and its start.
+unfoldable pub sound : Image → List ℕ → ℕ → Bool
+sound g before start = not (verticesOut (g .n) || (edgesOut (g .m) || (vertexOut (g .n) start || (afterOut g || (tailOut (g .n) (g .m) (g .tail) || (listOut g || (blanksOut (g .n) before || startBlank start before)))))))
 
 -- The number of a checker or converter of a linked image; `areas` are those lent besides the image.
 unfoldable pub imageNumber : Image → List Lent → ℕ
 imageNumber g areas = firstOf (sizeRefusals (g .n) (g .m) (imageAreas g ++ areas) ++ imageRefusals g)
 
 -- The number of a search of a linked image, or of the opening of one.
-unfoldable pub searchNumber : Image → ℕ → List Lent → ℕ
-searchNumber g start areas = firstOf (sizeRefusals (g .n) (g .m) (imageAreas g ++ areas) ++ refuse 4 (vertexOut (g .n) start) ∷ imageRefusals g)
+unfoldable pub searchNumber : Image → List ℕ → ℕ → List Lent → ℕ
+searchNumber g before start areas = firstOf (sizeRefusals (g .n) (g .m) (imageAreas g ++ areas) ++ refuse 4 (vertexOut (g .n) start) ∷ (imageRefusals g ++ blankRefusals (g .n) before start))
 
 -- The areas of an array form: n + 1 first positions and m tails.
 abbrev pub arrayAreas : ArrayForm → List Lent
 arrayAreas a = lent (a .n + 1) (a .firsts) ∷ lent (a .m) (a .tails) ∷ []
 
--- The number of a search of an array form from an element, or of a query of one.
+-- The number of a query of an array form.
 unfoldable pub arrayNumber : ArrayForm → ℕ → List Lent → ℕ
 arrayNumber a x areas = firstOf (sizeRefusals (a .n) (a .m) (arrayAreas a ++ areas) ++ refuse 4 (vertexOut (a .n) x) ∷ refuse 5 (firstOut a) ∷ refuse 6 (tailOut (a .n) (a .m) (a .tails)) ∷ [])
+
+-- The number of a search of an array form.
+unfoldable pub arraySearchNumber : ArrayForm → List ℕ → ℕ → List Lent → ℕ
+arraySearchNumber a before start areas = firstOf (sizeRefusals (a .n) (a .m) (arrayAreas a ++ areas) ++ refuse 4 (vertexOut (a .n) start) ∷ refuse 5 (firstOut a) ∷ refuse 6 (tailOut (a .n) (a .m) (a .tails)) ∷ blankRefusals (a .n) before start)

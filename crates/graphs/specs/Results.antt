@@ -14,21 +14,41 @@ use Rattle.graphs.specs.Circles.{active}
 abbrev pub eventsLeft : History → List ℕ → List ℕ
 eventsLeft h area = overlay (words (reverse h)) area
 
--- The marks of k nodes: 1 for the start, then 2, 3 and on in order of labelling, 0 for the rest.
-abbrev pub marksLeft : ℕ → History → List ℕ → List ℕ
-marksLeft k h area = filled (λ x. rank x (labelled h)) k area
+-- The mark of an element already on the blank (document 02, item 7).
+abbrev pub blankMark : ℕ
+blankMark = 65535
+
+-- The mark of x: 65,535 where it is on the blank, else this.
+abbrev pub unlessBlank : List ℕ → (ℕ → ℕ) → ℕ → ℕ
+unlessBlank before f x = cond (memb x before) blankMark (f x)
+
+-- The marks of k nodes before anything is labelled: 65,535 for the elements on the blank, 0 for the rest.
+abbrev pub marksFirst : ℕ → List ℕ → List ℕ → List ℕ
+marksFirst k before area = filled (unlessBlank before (λ x. 0)) k area
+
+-- The marks of k nodes: 65,535 for the elements on the blank; 1 for the start, then 2, 3 and on in order of labelling, 0 for the rest.
+abbrev pub marksLeft : ℕ → List ℕ → History → List ℕ → List ℕ
+marksLeft k before h area = filled (unlessBlank before (λ x. rank x (labelled h))) k area
 
 -- What an element labelled and not yet scanned has in its mark beside its number, in a folded walk (document 02, item 5).
 abbrev pub activeMark : ℕ
 activeMark = 32768
 
--- The mark of x while a folded walk is under way: its number, and 32,768 more until it is scanned.
+-- The mark of x while a folded walk is under way, where it is not on the blank: its number, and 32,768 more until it is scanned.
 abbrev pub markNow : History → ℕ → ℕ
 markNow h x = cond (active x h) (activeMark + rank x (labelled h)) (rank x (labelled h))
 
 -- The marks of k nodes while a folded walk is under way.
-abbrev pub marksNow : ℕ → History → List ℕ → List ℕ
-marksNow k h area = filled (markNow h) k area
+abbrev pub marksNow : ℕ → List ℕ → History → List ℕ → List ℕ
+marksNow k before h area = filled (unlessBlank before (markNow h)) k area
+
+-- What the end of a roll-back leaves in a mark: 65,535 where it stood, else 0.
+abbrev pub restMark : ℕ → ℕ
+restMark mark = cond (eqb mark blankMark) blankMark 0
+
+-- The marks of the n elements at the end of a roll-back.
+abbrev pub marksRest : ℕ → List ℕ → List ℕ
+marksRest n marks = filled (λ x. restMark (at 0 marks x)) n marks
 
 -- The queue area: the labelled elements in order, then 0.
 abbrev pub queueLeft : ℕ → History → List ℕ → List ℕ

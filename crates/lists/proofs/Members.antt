@@ -74,6 +74,14 @@ mem-append {x} (y ∷ k) l m = go (mem-cons m) (λ q. mem-append k l q)
     go (inl e) ih = inl (here e)
     go (inr q) ih = up (ih q)
 
+pub memb-append : (x : ℕ) (k l : List ℕ) → memb x (k ++ l) ≡ (memb x k || memb x l)
+memb-append x [] l = refl
+memb-append x (y ∷ k) l = go (eqb x y) (memb-append x k l)
+  where
+    go : (b : Bool) → memb x (k ++ l) ≡ (memb x k || memb x l) → (b || memb x (k ++ l)) ≡ ((b || memb x k) || memb x l)
+    go true ih = refl
+    go false ih = ih
+
 pub mem-rest : {x : ℕ} (done : List ℕ) {rest : List ℕ} → Mem x rest → Mem x (reverseAux done rest)
 mem-rest [] m = m
 mem-rest (d ∷ ds) m = mem-rest ds (there m)

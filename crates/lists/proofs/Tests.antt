@@ -31,6 +31,10 @@ pub and-none : (b : Bool) → (b && false) ≡ false
 and-none true = refl
 and-none false = refl
 
+pub and-unit : (b : Bool) → (b && true) ≡ b
+and-unit true = refl
+and-unit false = refl
+
 -- Neither of two tests passes.
 pub neither : (a b : Bool) → (a || b) ≡ false → (a ≡ false) × (b ≡ false)
 neither true true e = clash e

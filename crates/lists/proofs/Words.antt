@@ -8,8 +8,8 @@ use Prim.Native.Nat.{ℕ, zero, suc, _+_, _-_, _≤_, _<_}
 use native.Mathlib.Omega.{arith}
 use native.Mathlib.Nat.{add-zero}
 use lib.Dec.{eqb}
-use lib.ListN.{length, getD, set, take, drop, replicate, take-append-drop, length-set, length-append, length-drop, length-replicate, replicate-append-replicate, List·getD-append}
-use lib.Seq.{set-set, set-comm, set-getD, getD-set-same, getD-set-other, set-append-left, set-at, take-at, drop-at, take-suc, drop-cons, append-snoc, drop-set-lt, drop-append-add, drop-append-seam, drop-drop, length-take-le}
+use lib.ListN.{length, getD, set, take, drop, replicate, take-append-drop, length-set, length-append, length-drop, length-replicate, List·getD-append}
+use lib.Seq.{getD-at, set-set, set-comm, set-getD, getD-set-same, getD-set-other, set-append-left, set-at, take-at, drop-at, take-suc, drop-cons, append-snoc, drop-set-lt, drop-append-add, drop-append-seam, drop-drop, length-take-le}
 use borrow.Author.Tests.{ne-eqb}
 use Rattle.lists.specs.Words.{at, put, overlay, pasted, cleared, valuesFrom, filled}
 use Rattle.lists.proofs.Tests.{Compared, equal, other, compare}
@@ -86,6 +86,16 @@ pub length-values : (f : ℕ → ℕ) (b k : ℕ) → length (valuesFrom f b k) 
 length-values f b zero = refl
 length-values f b (suc k) = ap suc (length-values f (suc b) k)
 
+-- Filling n words leaves those behind them, and those past n + m.
+pub filled-behind : (f : ℕ → ℕ) (n : ℕ) (area : List ℕ) → drop n (filled f n area) ≡ drop n area
+filled-behind f n area = drop-at (valuesFrom f 0 n) (drop n area) n (length-values f 0 n)
+
+pub filled-past : (f : ℕ → ℕ) (n m : ℕ) (area : List ℕ) → drop (n + m) (filled f n area) ≡ drop (n + m) area
+filled-past f n m area =
+    ap (λ (k : ℕ). drop (k + m) (filled f n area)) (sym (length-values f 0 n))
+    ∙ drop-append-add (valuesFrom f 0 n) (drop n area) m
+    ∙ drop-drop m n area
+
 -- Zeros everywhere are an area cleared.
 pub values-zero : (f : ℕ → ℕ) (b k : ℕ) → ((x : ℕ) → b < x → x ≤ b + k → f x ≡ 0) → valuesFrom f b k ≡ replicate k 0
 values-zero f b zero h = refl
@@ -150,16 +160,31 @@ values-append f b (suc n) m =
     ap (λ (k : ℕ). valuesFrom f b k) e
     ∙ ap (λ (l : List ℕ). f (suc b) ∷ l) (values-append f (suc b) n m ∙ ap (λ (c : ℕ). valuesFrom f (suc b) n ++ valuesFrom f c m) z)
 
--- Clearing the first n words clears n + m, where the others are 0 already.
-pub clear-filled : (f : ℕ → ℕ) (n m : ℕ) (area : List ℕ) → ((x : ℕ) → n < x → x ≤ n + m → f x ≡ 0) → cleared n (filled f (n + m) area) ≡ cleared (n + m) area
-clear-filled f n m area h =
-    let split : filled f (n + m) area ≡ valuesFrom f 0 n ++ (replicate m 0 ++ drop (n + m) area) =
-    ap (λ (ws : List ℕ). ws ++ drop (n + m) area) (values-append f 0 n m ∙ ap (λ (ws : List ℕ). valuesFrom f 0 n ++ ws) (values-zero f (0 + n) m (λ x p q. h x (omega arith) (omega arith))))
-    ∙ append-assoc (valuesFrom f 0 n) (replicate m 0) (drop (n + m) area) in
-    ap (λ (l : List ℕ). replicate n 0 ++ drop n l) split
-    ∙ ap (λ (l : List ℕ). replicate n 0 ++ l) (drop-at (valuesFrom f 0 n) (replicate m 0 ++ drop (n + m) area) n (length-values f 0 n))
-    ∙ sym (append-assoc (replicate n 0) (replicate m 0) (drop (n + m) area))
-    ∙ ap (λ (l : List ℕ). l ++ drop (n + m) area) (replicate-append-replicate n m 0)
+-- An area filled to n + m and then to n is one area filled.
+pub refilled : (f g h : ℕ → ℕ) (n m : ℕ) (area : List ℕ) → ((x : ℕ) → 0 < x → x ≤ n → g x ≡ h x) → ((x : ℕ) → n < x → x ≤ n + m → f x ≡ h x) → filled g n (filled f (n + m) area) ≡ filled h (n + m) area
+refilled f g h n m area low high =
+    let split : filled f (n + m) area ≡ valuesFrom f 0 n ++ (valuesFrom f (0 + n) m ++ drop (n + m) area) =
+    ap (λ (ws : List ℕ). ws ++ drop (n + m) area) (values-append f 0 n m) ∙ append-assoc (valuesFrom f 0 n) (valuesFrom f (0 + n) m) (drop (n + m) area) in
+    ap (λ (l : List ℕ). valuesFrom g 0 n ++ drop n l) split
+    ∙ ap (λ (l : List ℕ). valuesFrom g 0 n ++ l) (drop-at (valuesFrom f 0 n) (valuesFrom f (0 + n) m ++ drop (n + m) area) n (length-values f 0 n))
+    ∙ sym (append-assoc (valuesFrom g 0 n) (valuesFrom f (0 + n) m) (drop (n + m) area))
+    ∙ (λ i. (values-same g h 0 n (λ x p q. low x p (omega arith)) i ++ values-same f h (0 + n) m (λ x p q. high x (omega arith) (omega arith)) i) ++ drop (n + m) area)
+    ∙ ap (λ (ws : List ℕ). ws ++ drop (n + m) area) (sym (values-append h 0 n m))
+
+-- The next word is stored behind those filled so far; until then it is as it was.
+pub filled-next : (f : ℕ → ℕ) (i : ℕ) (area : List ℕ) → i < length area → set (filled f i area) i (f (suc i)) ≡ filled f (suc i) area
+filled-next f i area h =
+    let one : i + 1 ≡ suc i = omega arith in
+    let same : valuesFrom f 0 i ++ (f (suc i) ∷ []) ≡ valuesFrom f 0 (suc i) = (let z : i ≡ 0 + i = omega arith in ap (λ (b : ℕ). valuesFrom f 0 i ++ (f (suc b) ∷ [])) z) ∙ sym (values-append f 0 i 1) ∙ ap (valuesFrom f 0) one in
+    ap (λ (l : List ℕ). set (valuesFrom f 0 i ++ l) i (f (suc i))) (drop-cons area i 0 h)
+    ∙ set-at (valuesFrom f 0 i) (getD area i 0) (drop (suc i) area) (f (suc i)) i (length-values f 0 i)
+    ∙ sym (append-assoc (valuesFrom f 0 i) (f (suc i) ∷ []) (drop (suc i) area))
+    ∙ ap (λ (ws : List ℕ). ws ++ drop (suc i) area) same
+
+pub filled-ahead : (f : ℕ → ℕ) (i : ℕ) (area : List ℕ) → i < length area → getD (filled f i area) i 0 ≡ getD area i 0
+filled-ahead f i area h =
+    ap (λ (l : List ℕ). getD (valuesFrom f 0 i ++ l) i 0) (drop-cons area i 0 h)
+    ∙ getD-at (valuesFrom f 0 i) (getD area i 0) (drop (suc i) area) 0 i (length-values f 0 i)
 
 -- ---- words pasted into an area
 -- The words in front are an overlay.

@@ -12,7 +12,7 @@ use borrow.Author.Tests.{lt-ltb, le-ltb, eqb-false}
 use Rattle.lists.proofs.Tests.{or-true}
 use Rattle.graphs.specs.Image.{Image}
 use Rattle.graphs.specs.ArrayForm.{ArrayForm}
-use Rattle.graphs.specs.Refusals.{refuse, firstOf, verticesOut, edgesOut, Lent, lent, short, searchNumber, arrayNumber}
+use Rattle.graphs.specs.Refusals.{refuse, firstOf, verticesOut, edgesOut, Lent, lent, short, searchNumber, arraySearchNumber}
 use Rattle.arrays.specs.Arrays.{arrayIn}
 use Rattle.walks.specs.Promises.{writtenAreas, walkNumber, arrayWalkNumber}
 use Rattle.profile_walker.specs.Handed.{arrayWalkNumberIn}
@@ -45,43 +45,43 @@ short-refused n m = go (verticesOut n) (edgesOut m)
     go false false = eqb-false 3 0 refl
 
 -- ---- a search of a linked image
-module _ (g : Image) (start : ℕ) (areas : List Lent) (k : ℕ) (area : List ℕ) where
-  pub search-long : k ≤ length area → searchNumber g start areas ≡ searchNumber g start (areas ++ (lent k area ∷ []))
+module _ (g : Image) (before : List ℕ) (start : ℕ) (areas : List Lent) (k : ℕ) (area : List ℕ) where
+  pub search-long : k ≤ length area → searchNumber g before start areas ≡ searchNumber g before start (areas ++ (lent k area ∷ []))
   unfolding searchNumber
   search-long h = rw (last-long k area h areas)
 
-  short-is : length area < k → searchNumber g start (areas ++ (lent k area ∷ [])) ≡ shortNumber (g .n) (g .m)
+  short-is : length area < k → searchNumber g before start (areas ++ (lent k area ∷ [])) ≡ shortNumber (g .n) (g .m)
   unfolding searchNumber
   short-is h = simp (last-short k area h areas, or-true)
 
-  pub search-short : length area < k → searchNumber g start (areas ++ (lent k area ∷ [])) ≢ 0
+  pub search-short : length area < k → searchNumber g before start (areas ++ (lent k area ∷ [])) ≢ 0
   search-short h z = short-refused (g .n) (g .m) (sym (short-is h) ∙ z)
 
 -- A walk, which is lent seven words for its tally behind the areas of its own.
-module _ (g : Image) (start : ℕ) (marks events : List ℕ) (own : List Lent) (counts : List ℕ) where
-  pub walk-long : 7 ≤ length counts → walkNumber g start marks events own ≡ walkNumber g start marks events (own ++ (lent 7 counts ∷ []))
-  walk-long h = search-long g start (writtenAreas (g .n + g .m) marks events ++ own) 7 counts h
+module _ (g : Image) (before : List ℕ) (start : ℕ) (marks events : List ℕ) (own : List Lent) (counts : List ℕ) where
+  pub walk-long : 7 ≤ length counts → walkNumber g before start marks events own ≡ walkNumber g before start marks events (own ++ (lent 7 counts ∷ []))
+  walk-long h = search-long g before start (writtenAreas (g .n + g .m) marks events ++ own) 7 counts h
 
   -- k is the number that the call gets for short areas.
-  pub walk-short : {k : ℕ} → ((areas : List Lent) → false ≡ not (short areas) → k ≡ walkNumber g start marks events areas) → length counts < 7 → (k ≡ walkNumber g start marks events (own ++ (lent 7 counts ∷ []))) × (k ≢ 0)
+  pub walk-short : {k : ℕ} → ((areas : List Lent) → false ≡ not (short areas) → k ≡ walkNumber g before start marks events areas) → length counts < 7 → (k ≡ walkNumber g before start marks events (own ++ (lent 7 counts ∷ []))) × (k ≢ 0)
   walk-short e h =
       let is = e (own ++ (lent 7 counts ∷ [])) (says-short 7 counts h own) in
-      (is, λ z. search-short g start (writtenAreas (g .n + g .m) marks events ++ own) 7 counts h (sym is ∙ z))
+      (is, λ z. search-short g before start (writtenAreas (g .n + g .m) marks events ++ own) 7 counts h (sym is ∙ z))
 
 -- ---- a walk of an array form
-module _ (a : ArrayForm) (start : ℕ) (marks increments events counts : List ℕ) where
-  pub array-long : 7 ≤ length counts → arrayWalkNumber a start marks increments events ≡ arrayWalkNumberIn a start marks increments events counts
-  unfolding arrayNumber
+module _ (a : ArrayForm) (before : List ℕ) (start : ℕ) (marks increments events counts : List ℕ) where
+  pub array-long : 7 ≤ length counts → arrayWalkNumber a before start marks increments events ≡ arrayWalkNumberIn a before start marks increments events counts
+  unfolding arraySearchNumber
   array-long h = rw (le-ltb (length counts) 7 h)
 
-  array-short-is : length counts < 7 → arrayWalkNumberIn a start marks increments events counts ≡ shortNumber (a .n) (a .m)
-  unfolding arrayNumber
+  array-short-is : length counts < 7 → arrayWalkNumberIn a before start marks increments events counts ≡ shortNumber (a .n) (a .m)
+  unfolding arraySearchNumber
   array-short-is h = simp (lt-ltb (length counts) 7 h, or-true)
 
-  no-firsts : arrayWalkNumber (arrayIn (a .n) (a .m) [] (a .tails)) start marks increments events ≡ shortNumber (a .n) (a .m)
-  unfolding arrayNumber
+  no-firsts : arrayWalkNumber (arrayIn (a .n) (a .m) [] (a .tails)) before start marks increments events ≡ shortNumber (a .n) (a .m)
+  unfolding arraySearchNumber
   no-firsts = rw (lt-ltb 0 (a .n + 1) (omega arith))
 
   -- k is the number that the call gets for no first positions.
-  pub array-short : {k : ℕ} → k ≡ arrayWalkNumber (arrayIn (a .n) (a .m) [] (a .tails)) start marks increments events → length counts < 7 → (k ≡ arrayWalkNumberIn a start marks increments events counts) × (k ≢ 0)
+  pub array-short : {k : ℕ} → k ≡ arrayWalkNumber (arrayIn (a .n) (a .m) [] (a .tails)) before start marks increments events → length counts < 7 → (k ≡ arrayWalkNumberIn a before start marks increments events counts) × (k ≢ 0)
   array-short e h = (e ∙ no-firsts ∙ sym (array-short-is h), λ z. short-refused (a .n) (a .m) (sym (e ∙ no-firsts) ∙ z))

@@ -7,7 +7,7 @@ use lib.ListN.{length, getD}
 use Rattle.lists.specs.Words.{overlay}
 use Rattle.graphs.specs.ArrayForm.{ArrayForm}
 use Rattle.graphs.specs.Image.{Image}
-use Rattle.graphs.specs.Refusals.{lent, searchNumber, arrayNumber}
+use Rattle.graphs.specs.Refusals.{lent, searchNumber, arraySearchNumber}
 use Rattle.folding.specs.Machine.{Config}
 use Rattle.folding.specs.Calls.{Reason, ended, spent, stuck, Answer, ran, taken, refused, Reply, refusing, Call, areaOf, serve}
 use Rattle.texts.specs.Loading as loading
@@ -62,13 +62,13 @@ handedSizes (loading.loaded p) n m start = sized 0 (p .n) (p .m) (p .start)
 
 -- ---- the tally of a walk is seven lent words
 -- The number of a walk over the array form.
-abbrev pub arrayWalkNumberIn : ArrayForm → ℕ → (marks increments events tally : List ℕ) → ℕ
-arrayWalkNumberIn a start marks increments events tally = arrayNumber a start (writtenAreas (a .n + a .m) marks events ++ lent (a .n) increments ∷ lent 7 tally ∷ [])
+abbrev pub arrayWalkNumberIn : ArrayForm → List ℕ → ℕ → (marks increments events tally : List ℕ) → ℕ
+arrayWalkNumberIn a before start marks increments events tally = arraySearchNumber a before start (writtenAreas (a .n + a .m) marks events ++ lent (a .n) increments ∷ lent 7 tally ∷ [])
 
 -- ---- the calls of the folded search
 -- The number of an opening: besides marks and three event words it is lent nine words for the state.
-abbrev pub openNumberIn : Image → ℕ → (marks events state : List ℕ) → ℕ
-openNumberIn g start marks events state = searchNumber g start (lent (g .n + g .m) marks ∷ lent 3 events ∷ lent 9 state ∷ [])
+abbrev pub openNumberIn : Image → List ℕ → ℕ → (marks events state : List ℕ) → ℕ
+openNumberIn g before start marks events state = searchNumber g before start (lent (g .n + g .m) marks ∷ lent 3 events ∷ lent 9 state ∷ [])
 
 -- A call on the state in some words; fewer than nine hold none, and that is number 3.
 abbrev pub servedIn : (state after tail marks : List ℕ) → Call → Reply

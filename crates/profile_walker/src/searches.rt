@@ -44,19 +44,30 @@ pub extern "C" fn profile_walker_dfs_recursive(
     start: u16,
     after: &[u16],
     tail: &[u16],
+    before: &[u16],
     marks: &mut [u16],
     events: &mut [u16],
     counts: &mut [u32],
 ) -> u16
-    ensures number { λ r. ⌜ r ≡ walkNumber (image n m (now (after .entry)) (now (tail .entry))) start (now (marks .entry)) (now (events .entry)) (lent 7 (now (counts .entry)) ∷ []) ⌝ }
-    ensures tally { λ r. ⌜ now (counts .exit) ≡ unlessRefused r (overlay (tally (depthWalk (image n m (now (after .entry)) (now (tail .entry))) start)) (now (counts .entry))) (now (counts .entry)) ⌝ }
-    ensures marks { λ r. ⌜ now (marks .exit) ≡ unlessRefused r (marksLeft (n + m) (depthWalk (image n m (now (after .entry)) (now (tail .entry))) start) (now (marks .entry))) (now (marks .entry)) ⌝ }
-    ensures events { λ r. ⌜ now (events .exit) ≡ unlessRefused r (eventsLeft (depthWalk (image n m (now (after .entry)) (now (tail .entry))) start) (now (events .entry))) (now (events .entry)) ⌝ }
+    ensures number { λ r. ⌜ r ≡ walkNumber (image n m (now (after .entry)) (now (tail .entry))) (now (before .entry)) start (now (marks .entry)) (now (events .entry)) (lent 7 (now (counts .entry)) ∷ []) ⌝ }
+    ensures tally { λ r. ⌜ now (counts .exit) ≡ unlessRefused r (overlay (tally (depthWalk (image n m (now (after .entry)) (now (tail .entry))) (now (before .entry)) start)) (now (counts .entry))) (now (counts .entry)) ⌝ }
+    ensures marks { λ r. ⌜ now (marks .exit) ≡ unlessRefused r (marksLeft (n + m) (now (before .entry)) (depthWalk (image n m (now (after .entry)) (now (tail .entry))) (now (before .entry)) start) (now (marks .entry))) (now (marks .entry)) ⌝ }
+    ensures events { λ r. ⌜ now (events .exit) ≡ unlessRefused r (eventsLeft (depthWalk (image n m (now (after .entry)) (now (tail .entry))) (now (before .entry)) start) (now (events .entry))) (now (events .entry)) ⌝ }
 {
     if counts.len() < 7 {
-        return walk_number(n, m, Vertex(start), after, tail, marks, events, false);
+        return walk_number(
+            n,
+            m,
+            Vertex(start),
+            after,
+            tail,
+            before,
+            marks,
+            events,
+            false,
+        );
     }
-    let w = dfs_recursive(n, m, Vertex(start), after, tail, marks, events);
+    let w = dfs_recursive(n, m, Vertex(start), after, tail, before, marks, events);
     let k = w.number;
     if k != 0 {
         return k;
@@ -74,21 +85,42 @@ pub extern "C" fn profile_walker_dfs_parent(
     start: u16,
     after: &[u16],
     tail: &[u16],
+    before: &[u16],
     marks: &mut [u16],
     parents: &mut [u16],
     events: &mut [u16],
     counts: &mut [u32],
 ) -> u16
-    ensures number { λ r. ⌜ r ≡ walkNumber (image n m (now (after .entry)) (now (tail .entry))) start (now (marks .entry)) (now (events .entry)) (lent n (now (parents .entry)) ∷ lent 7 (now (counts .entry)) ∷ []) ⌝ }
-    ensures tally { λ r. ⌜ now (counts .exit) ≡ unlessRefused r (overlay (tally (depthWalk (image n m (now (after .entry)) (now (tail .entry))) start)) (now (counts .entry))) (now (counts .entry)) ⌝ }
-    ensures marks { λ r. ⌜ now (marks .exit) ≡ unlessRefused r (marksLeft (n + m) (depthWalk (image n m (now (after .entry)) (now (tail .entry))) start) (now (marks .entry))) (now (marks .entry)) ⌝ }
-    ensures parents { λ r. ⌜ now (parents .exit) ≡ unlessRefused r (parentLeft (graphOf (image n m (now (after .entry)) (now (tail .entry)))) (depthWalk (image n m (now (after .entry)) (now (tail .entry))) start) (now (parents .entry))) (now (parents .entry)) ⌝ }
-    ensures events { λ r. ⌜ now (events .exit) ≡ unlessRefused r (eventsLeft (depthWalk (image n m (now (after .entry)) (now (tail .entry))) start) (now (events .entry))) (now (events .entry)) ⌝ }
+    ensures number { λ r. ⌜ r ≡ walkNumber (image n m (now (after .entry)) (now (tail .entry))) (now (before .entry)) start (now (marks .entry)) (now (events .entry)) (lent n (now (parents .entry)) ∷ lent 7 (now (counts .entry)) ∷ []) ⌝ }
+    ensures tally { λ r. ⌜ now (counts .exit) ≡ unlessRefused r (overlay (tally (depthWalk (image n m (now (after .entry)) (now (tail .entry))) (now (before .entry)) start)) (now (counts .entry))) (now (counts .entry)) ⌝ }
+    ensures marks { λ r. ⌜ now (marks .exit) ≡ unlessRefused r (marksLeft (n + m) (now (before .entry)) (depthWalk (image n m (now (after .entry)) (now (tail .entry))) (now (before .entry)) start) (now (marks .entry))) (now (marks .entry)) ⌝ }
+    ensures parents { λ r. ⌜ now (parents .exit) ≡ unlessRefused r (parentLeft (graphOf (image n m (now (after .entry)) (now (tail .entry)))) (depthWalk (image n m (now (after .entry)) (now (tail .entry))) (now (before .entry)) start) (now (parents .entry))) (now (parents .entry)) ⌝ }
+    ensures events { λ r. ⌜ now (events .exit) ≡ unlessRefused r (eventsLeft (depthWalk (image n m (now (after .entry)) (now (tail .entry))) (now (before .entry)) start) (now (events .entry))) (now (events .entry)) ⌝ }
 {
     if counts.len() < 7 {
-        return walk_number(n, m, Vertex(start), after, tail, marks, events, false);
+        return walk_number(
+            n,
+            m,
+            Vertex(start),
+            after,
+            tail,
+            before,
+            marks,
+            events,
+            false,
+        );
     }
-    let w = dfs_parent(n, m, Vertex(start), after, tail, marks, parents, events);
+    let w = dfs_parent(
+        n,
+        m,
+        Vertex(start),
+        after,
+        tail,
+        before,
+        marks,
+        parents,
+        events,
+    );
     let k = w.number;
     if k != 0 {
         return k;
@@ -106,17 +138,18 @@ pub extern "C" fn profile_walker_dfs_array(
     start: u16,
     firsts: &[u16],
     tails: &mut [u16],
+    before: &[u16],
     marks: &mut [u16],
     increments: &mut [u16],
     events: &mut [u16],
     counts: &mut [u32],
 ) -> u16
-    ensures number { λ r. ⌜ r ≡ arrayWalkNumberIn (arrayIn n m (now (firsts .entry)) (now (tails .entry))) start (now (marks .entry)) (now (increments .entry)) (now (events .entry)) (now (counts .entry)) ⌝ }
-    ensures tally { λ r. ⌜ now (counts .exit) ≡ unlessRefused r (overlay (tally (arrayWalk (arrayIn n m (now (firsts .entry)) (now (tails .entry))) start)) (now (counts .entry))) (now (counts .entry)) ⌝ }
+    ensures number { λ r. ⌜ r ≡ arrayWalkNumberIn (arrayIn n m (now (firsts .entry)) (now (tails .entry))) (now (before .entry)) start (now (marks .entry)) (now (increments .entry)) (now (events .entry)) (now (counts .entry)) ⌝ }
+    ensures tally { λ r. ⌜ now (counts .exit) ≡ unlessRefused r (overlay (tally (arrayWalk (arrayIn n m (now (firsts .entry)) (now (tails .entry))) (now (before .entry)) start)) (now (counts .entry))) (now (counts .entry)) ⌝ }
     ensures tails { λ r. ⌜ now (tails .exit) ≡ now (tails .entry) ⌝ }
-    ensures marks { λ r. ⌜ now (marks .exit) ≡ unlessRefused r (marksLeft (n + m) (arrayWalk (arrayIn n m (now (firsts .entry)) (now (tails .entry))) start) (now (marks .entry))) (now (marks .entry)) ⌝ }
-    ensures increments { λ r. ⌜ now (increments .exit) ≡ unlessRefused r (incrementLeft (arrayGraph (arrayIn n m (now (firsts .entry)) (now (tails .entry)))) (arrayWalk (arrayIn n m (now (firsts .entry)) (now (tails .entry))) start) (now (increments .entry))) (now (increments .entry)) ⌝ }
-    ensures events { λ r. ⌜ now (events .exit) ≡ unlessRefused r (eventsLeft (arrayWalk (arrayIn n m (now (firsts .entry)) (now (tails .entry))) start) (now (events .entry))) (now (events .entry)) ⌝ }
+    ensures marks { λ r. ⌜ now (marks .exit) ≡ unlessRefused r (marksLeft (n + m) (now (before .entry)) (arrayWalk (arrayIn n m (now (firsts .entry)) (now (tails .entry))) (now (before .entry)) start) (now (marks .entry))) (now (marks .entry)) ⌝ }
+    ensures increments { λ r. ⌜ now (increments .exit) ≡ unlessRefused r (incrementLeft (arrayGraph (arrayIn n m (now (firsts .entry)) (now (tails .entry)))) (arrayWalk (arrayIn n m (now (firsts .entry)) (now (tails .entry))) (now (before .entry)) start) (now (increments .entry))) (now (increments .entry)) ⌝ }
+    ensures events { λ r. ⌜ now (events .exit) ≡ unlessRefused r (eventsLeft (arrayWalk (arrayIn n m (now (firsts .entry)) (now (tails .entry))) (now (before .entry)) start) (now (events .entry))) (now (events .entry)) ⌝ }
 {
     if counts.len() < 7 {
         return array_walk_number(
@@ -125,6 +158,7 @@ pub extern "C" fn profile_walker_dfs_array(
             Vertex(start),
             &firsts[0..0],
             tails,
+            before,
             marks,
             increments,
             events,
@@ -136,6 +170,7 @@ pub extern "C" fn profile_walker_dfs_array(
         Vertex(start),
         firsts,
         tails,
+        before,
         marks,
         increments,
         events,
@@ -157,21 +192,42 @@ pub extern "C" fn profile_walker_bfs_queue(
     start: u16,
     after: &[u16],
     tail: &[u16],
+    before: &[u16],
     marks: &mut [u16],
     queue: &mut [u16],
     events: &mut [u16],
     counts: &mut [u32],
 ) -> u16
-    ensures number { λ r. ⌜ r ≡ walkNumber (image n m (now (after .entry)) (now (tail .entry))) start (now (marks .entry)) (now (events .entry)) (lent n (now (queue .entry)) ∷ lent 7 (now (counts .entry)) ∷ []) ⌝ }
-    ensures tally { λ r. ⌜ now (counts .exit) ≡ unlessRefused r (overlay (tally (breadthWalk (image n m (now (after .entry)) (now (tail .entry))) start)) (now (counts .entry))) (now (counts .entry)) ⌝ }
-    ensures marks { λ r. ⌜ now (marks .exit) ≡ unlessRefused r (marksLeft (n + m) (breadthWalk (image n m (now (after .entry)) (now (tail .entry))) start) (now (marks .entry))) (now (marks .entry)) ⌝ }
-    ensures queue { λ r. ⌜ now (queue .exit) ≡ unlessRefused r (queueLeft n (breadthWalk (image n m (now (after .entry)) (now (tail .entry))) start) (now (queue .entry))) (now (queue .entry)) ⌝ }
-    ensures events { λ r. ⌜ now (events .exit) ≡ unlessRefused r (eventsLeft (breadthWalk (image n m (now (after .entry)) (now (tail .entry))) start) (now (events .entry))) (now (events .entry)) ⌝ }
+    ensures number { λ r. ⌜ r ≡ walkNumber (image n m (now (after .entry)) (now (tail .entry))) (now (before .entry)) start (now (marks .entry)) (now (events .entry)) (lent n (now (queue .entry)) ∷ lent 7 (now (counts .entry)) ∷ []) ⌝ }
+    ensures tally { λ r. ⌜ now (counts .exit) ≡ unlessRefused r (overlay (tally (breadthWalk (image n m (now (after .entry)) (now (tail .entry))) (now (before .entry)) start)) (now (counts .entry))) (now (counts .entry)) ⌝ }
+    ensures marks { λ r. ⌜ now (marks .exit) ≡ unlessRefused r (marksLeft (n + m) (now (before .entry)) (breadthWalk (image n m (now (after .entry)) (now (tail .entry))) (now (before .entry)) start) (now (marks .entry))) (now (marks .entry)) ⌝ }
+    ensures queue { λ r. ⌜ now (queue .exit) ≡ unlessRefused r (queueLeft n (breadthWalk (image n m (now (after .entry)) (now (tail .entry))) (now (before .entry)) start) (now (queue .entry))) (now (queue .entry)) ⌝ }
+    ensures events { λ r. ⌜ now (events .exit) ≡ unlessRefused r (eventsLeft (breadthWalk (image n m (now (after .entry)) (now (tail .entry))) (now (before .entry)) start) (now (events .entry))) (now (events .entry)) ⌝ }
 {
     if counts.len() < 7 {
-        return walk_number(n, m, Vertex(start), after, tail, marks, events, false);
+        return walk_number(
+            n,
+            m,
+            Vertex(start),
+            after,
+            tail,
+            before,
+            marks,
+            events,
+            false,
+        );
     }
-    let w = bfs_queue(n, m, Vertex(start), after, tail, marks, queue, events);
+    let w = bfs_queue(
+        n,
+        m,
+        Vertex(start),
+        after,
+        tail,
+        before,
+        marks,
+        queue,
+        events,
+    );
     let k = w.number;
     if k != 0 {
         return k;
@@ -189,20 +245,31 @@ pub extern "C" fn profile_walker_bfs_folded(
     start: u16,
     after: &mut [u16],
     tail: &[u16],
+    before: &[u16],
     marks: &mut [u16],
     events: &mut [u16],
     counts: &mut [u32],
 ) -> u16
-    ensures number { λ r. ⌜ r ≡ walkNumber (image n m (now (after .entry)) (now (tail .entry))) start (now (marks .entry)) (now (events .entry)) (lent 7 (now (counts .entry)) ∷ []) ⌝ }
-    ensures tally { λ r. ⌜ now (counts .exit) ≡ unlessRefused r (overlay (tally (breadthWalk (image n m (now (after .entry)) (now (tail .entry))) start)) (now (counts .entry))) (now (counts .entry)) ⌝ }
+    ensures number { λ r. ⌜ r ≡ walkNumber (image n m (now (after .entry)) (now (tail .entry))) (now (before .entry)) start (now (marks .entry)) (now (events .entry)) (lent 7 (now (counts .entry)) ∷ []) ⌝ }
+    ensures tally { λ r. ⌜ now (counts .exit) ≡ unlessRefused r (overlay (tally (breadthWalk (image n m (now (after .entry)) (now (tail .entry))) (now (before .entry)) start)) (now (counts .entry))) (now (counts .entry)) ⌝ }
     ensures after { λ r. ⌜ now (after .exit) ≡ now (after .entry) ⌝ }
-    ensures marks { λ r. ⌜ now (marks .exit) ≡ unlessRefused r (marksLeft (n + m) (breadthWalk (image n m (now (after .entry)) (now (tail .entry))) start) (now (marks .entry))) (now (marks .entry)) ⌝ }
-    ensures events { λ r. ⌜ now (events .exit) ≡ unlessRefused r (eventsLeft (breadthWalk (image n m (now (after .entry)) (now (tail .entry))) start) (now (events .entry))) (now (events .entry)) ⌝ }
+    ensures marks { λ r. ⌜ now (marks .exit) ≡ unlessRefused r (marksLeft (n + m) (now (before .entry)) (breadthWalk (image n m (now (after .entry)) (now (tail .entry))) (now (before .entry)) start) (now (marks .entry))) (now (marks .entry)) ⌝ }
+    ensures events { λ r. ⌜ now (events .exit) ≡ unlessRefused r (eventsLeft (breadthWalk (image n m (now (after .entry)) (now (tail .entry))) (now (before .entry)) start) (now (events .entry))) (now (events .entry)) ⌝ }
 {
     if counts.len() < 7 {
-        return walk_number(n, m, Vertex(start), after, tail, marks, events, false);
+        return walk_number(
+            n,
+            m,
+            Vertex(start),
+            after,
+            tail,
+            before,
+            marks,
+            events,
+            false,
+        );
     }
-    let w = bfs_folded(n, m, Vertex(start), after, tail, marks, events);
+    let w = bfs_folded(n, m, Vertex(start), after, tail, before, marks, events);
     let k = w.number;
     if k != 0 {
         return k;

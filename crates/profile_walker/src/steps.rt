@@ -31,19 +31,20 @@ pub extern "C" fn profile_walker_open(
     start: u16,
     after: &[u16],
     tail: &[u16],
+    before: &[u16],
     marks: &mut [u16],
     events: &mut [u16],
     state: &mut [u16],
 ) -> u16
-    ensures number { λ r. ⌜ r ≡ openNumberIn (image n m (now (after .entry)) (now (tail .entry))) start (now (marks .entry)) (now (events .entry)) (now (state .entry)) ⌝ }
-    ensures state { λ r. ⌜ now (state .exit) ≡ unlessRefused r (overlay (configWords (openedAt (image n m (now (after .entry)) (now (tail .entry))) start (now (marks .entry)))) (now (state .entry))) (now (state .entry)) ⌝ }
-    ensures marks { λ r. ⌜ now (marks .exit) ≡ unlessRefused r (openedAt (image n m (now (after .entry)) (now (tail .entry))) start (now (marks .entry)) .marks) (now (marks .entry)) ⌝ }
-    ensures events { λ r. ⌜ now (events .exit) ≡ unlessRefused r (openReply (image n m (now (after .entry)) (now (tail .entry))) start (now (marks .entry)) (now (events .entry)) .area) (now (events .entry)) ⌝ }
+    ensures number { λ r. ⌜ r ≡ openNumberIn (image n m (now (after .entry)) (now (tail .entry))) (now (before .entry)) start (now (marks .entry)) (now (events .entry)) (now (state .entry)) ⌝ }
+    ensures state { λ r. ⌜ now (state .exit) ≡ unlessRefused r (overlay (configWords (openedAt (image n m (now (after .entry)) (now (tail .entry))) (now (before .entry)) start (now (marks .entry)))) (now (state .entry))) (now (state .entry)) ⌝ }
+    ensures marks { λ r. ⌜ now (marks .exit) ≡ unlessRefused r (openedAt (image n m (now (after .entry)) (now (tail .entry))) (now (before .entry)) start (now (marks .entry)) .marks) (now (marks .entry)) ⌝ }
+    ensures events { λ r. ⌜ now (events .exit) ≡ unlessRefused r (openReply (image n m (now (after .entry)) (now (tail .entry))) (now (before .entry)) start (now (marks .entry)) (now (events .entry)) .area) (now (events .entry)) ⌝ }
 {
     if state.len() < 9 {
-        return search_number(n, m, Vertex(start), after, tail, false);
+        return search_number(n, m, Vertex(start), after, tail, before, false);
     }
-    let r = open(n, m, Vertex(start), after, tail, marks, events);
+    let r = open(n, m, Vertex(start), after, tail, before, marks, events);
     let a = r.answer;
     let k = number_in(a);
     if k != 0 {

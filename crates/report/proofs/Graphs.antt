@@ -88,19 +88,19 @@ module _ (text after tail marks events : List ℕ) (p : Listing) (e : reading te
   F = loaded-fits text after tail p e
 
   -- Its walk can be opened.
-  opens : openNumber g (p .start) marks events ≡ 0
+  opens : openNumber g [] (p .start) marks events ≡ 0
   unfolding openNumber
   opens =
       let a = le-ltb (length (g .after)) (p .n + p .m) (omega (arith, F .fits-after, overlay-longer (afterOf p) after)) in
       let t = le-ltb (length (g .tail)) (p .m) (omega (arith, F .fits-tail, overlay-longer (tailOf p) tail)) in
       let k = le-ltb (length marks) (p .n + p .m) (omega (arith, F .few-vertices, F .few-edges)) in
       let v = le-ltb (length events) 3 (omega arith) in
-      taken-sound g (p .start) areas .1 (L .profile-sound, λ i. a i || (t i || (k i || (v i || false))))
+      taken-sound g [] (p .start) areas .1 (L .profile-sound, λ i. a i || (t i || (k i || (v i || false))))
 
   -- A sound image, and a start in it.
-  P : Profile g (p .start) areas
+  P : Profile g [] (p .start) areas
   unfolding openNumber
-  P = profile-sound g (p .start) areas opens
+  P = profile-sound g [] (p .start) areas opens
 
   -- An edge leads where its line says.
   same-target : (r : ℕ) → Edge (p .n) (p .m) r → to g r ≡ at (p .n) (tailOf p) r
@@ -135,7 +135,7 @@ module _ (text after tail marks events : List ℕ) (p : Listing) (e : reading te
 
   -- The events of its walk.
   abbrev h : History
-  h = depthWalk g (p .start)
+  h = depthWalk g [] (p .start)
 
   -- The two walks are one.
   same-walk : h ≡ walkFrom p
@@ -144,18 +144,18 @@ module _ (text after tail marks events : List ℕ) (p : Listing) (e : reading te
   -- The elements that it reaches have the same lists.
   same-met : met (graphOf g) (labelled h) ≡ met (graphFrom p) (labelled h)
   same-met =
-      let R = profile-ready g (P .sound) (p .start) (P .start-vertex) in
+      let R = profile-ready g (P .sound) [] (p .start) (P .start-vertex) (P .listed) in
       let N = reached-labels (graphOf g) [] (p .start) R (labelled h) (depth-first (graphOf g) [] (p .start) R .complete .labels) in
       sum-members (λ u. length (edgesOf g u)) (λ u. length (graphFrom p .out u)) (labelled h) (λ u m. ap length (L .lists u (N .all u m)))
 
   -- So the figure is the same.
   same-circular : circularOf (graphOf g) h ≡ circularOf (graphFrom p) h
-  same-circular = circular-renamed same-graph [] (p .start) (profile-ready g (P .sound) (p .start) (P .start-vertex)) ∙ ap (circularOf (graphFrom p)) (sym same-walk)
+  same-circular = circular-renamed same-graph [] (p .start) (profile-ready g (P .sound) [] (p .start) (P .start-vertex) (P .listed)) ∙ ap (circularOf (graphFrom p)) (sym same-walk)
 
   -- At most 10,000 events.
   few-events : length h ≤ 10000
   unfolding openNumber
-  few-events = omega (arith, words-length (reverse h), length-reverse h, room g (p .start) areas opens .0, F .few-vertices, F .few-edges)
+  few-events = omega (arith, words-length (reverse h), length-reverse h, room g [] (p .start) areas opens .0, F .few-vertices, F .few-edges)
 
   -- What is printed from the event words and the totals is what is printed of the graph's walk.
   same-printed : printedFrom (eventsLeft h events) (totalsIn g (p .start)) ≡ walkPrinted (graphFrom p) (p .start)
@@ -197,31 +197,31 @@ module _ (text after tail marks events output : List ℕ) {is-long : Bool} (e : 
   left = image n m after′ tail′
 
   -- Its walk is that of the graph that the text says.
-  walk-is : depthWalk left start ≡ walkFrom p
-  walk-is = (λ z. depthWalk (R .same-image z) (R .same-start z)) ∙ same-walk text after tail marks events p (R .is) (B .marks-long) (B .events-long)
+  walk-is : depthWalk left [] start ≡ walkFrom p
+  walk-is = (λ z. depthWalk (R .same-image z) [] (R .same-start z)) ∙ same-walk text after tail marks events p (R .is) (B .marks-long) (B .events-long)
 
   -- It can be walked with the marks and events lent.
   pub can-walk : CanWalk left start marks events
-  can-walk = record { opens = (λ z. openNumber (R .same-image z) (R .same-start z) marks events) ∙ opens text after tail marks events p (R .is) (B .marks-long) (B .events-long); long = B .events-long }
+  can-walk = record { opens = (λ z. openNumber (R .same-image z) [] (R .same-start z) marks events) ∙ opens text after tail marks events p (R .is) (B .marks-long) (B .events-long); long = B .events-long }
 
-  module _ (t : Totals) (events′ : List ℕ) (is-t : t ≡ totalsIn left start) (is-events : events′ ≡ eventsLeft (depthWalk left start) events) where
+  module _ (t : Totals) (events′ : List ℕ) (is-t : t ≡ totalsIn left start) (is-events : events′ ≡ eventsLeft (depthWalk left [] start) events) where
     -- What is printed of the walk.
     printed-is : printedFrom events′ t ≡ walkPrinted (graphFrom p) (p .start)
     printed-is =
         (λ z. printedFrom (is-events z) (is-t z))
-        ∙ (λ z. printedFrom (eventsLeft (depthWalk (R .same-image z) (R .same-start z)) events) (totalsIn (R .same-image z) (R .same-start z)))
+        ∙ (λ z. printedFrom (eventsLeft (depthWalk (R .same-image z) [] (R .same-start z)) events) (totalsIn (R .same-image z) (R .same-start z)))
         ∙ same-printed text after tail marks events p (R .is) (B .marks-long) (B .events-long)
 
     -- The events are in their area, and what is printed of them in the output area.
     pub can-print : (3 * t .events ≤ length events′) × (18 * t .events + 66 ≤ length output)
     can-print =
-        let made : t .events ≡ length (depthWalk (imageIn p after tail) (p .start)) = (λ z. is-t z .events) ∙ (λ z. length (depthWalk (R .same-image z) (R .same-start z))) in
+        let made : t .events ≡ length (depthWalk (imageIn p after tail) [] (p .start)) = (λ z. is-t z .events) ∙ (λ z. length (depthWalk (R .same-image z) [] (R .same-start z))) in
         let few = few-events text after tail marks events p (R .is) (B .marks-long) (B .events-long) in
-        let l = overlay-longer (words (reverse (depthWalk left start))) events in
+        let l = overlay-longer (words (reverse (depthWalk left [] start))) events in
         (omega (arith, ap length is-events, B .events-long), omega (arith, B .output-long))
 
     -- What is reported of the walk.
-    pub walk-reported : (bytes : ℕ) (after″ tail″ marks′ output′ : List ℕ) → after″ ≡ after′ → tail″ ≡ tail′ → marks′ ≡ marksLeft (n + m) (depthWalk left start) marks → bytes ≡ length (printedFrom events′ t) → output′ ≡ overlay (printedFrom events′ t) output
+    pub walk-reported : (bytes : ℕ) (after″ tail″ marks′ output′ : List ℕ) → after″ ≡ after′ → tail″ ≡ tail′ → marks′ ≡ marksLeft (n + m) [] (depthWalk left [] start) marks → bytes ≡ length (printedFrom events′ t) → output′ ≡ overlay (printedFrom events′ t) output
         → told (record { number = 0; bytes = bytes }) after″ tail″ marks′ events′ output′ ≡ reportOf text after tail marks events output
     unfolding reportOf
     walk-reported bytes after″ tail″ marks′ output′ a l k b o =
@@ -229,7 +229,7 @@ module _ (text after tail marks events output : List ℕ) {is-long : Bool} (e : 
         let output-is = o ∙ ap (λ (ws : List ℕ). overlay ws output) printed-is in
         let after-is = a ∙ (λ z. R .same-image z .after) in
         let tail-is = l ∙ (λ z. R .same-image z .tail) in
-        let marks-is = k ∙ (λ z. marksLeft (R .same-image z .n + R .same-image z .m) (walk-is z) marks) in
+        let marks-is = k ∙ (λ z. marksLeft (R .same-image z .n + R .same-image z .m) [] (walk-is z) marks) in
         let events-is = is-events ∙ ap (λ (h : History). eventsLeft h events) walk-is in
         (λ z. record { number = 0; bytes = bytes-is z; output = output-is z; after = after-is z; tail = tail-is z; marks = marks-is z; events = events-is z })
         ∙ ap (λ (x : Reading). reported x after tail marks events output) (sym (R .is) ∙ reading-long text after tail marks events output (own-long (lentAreas after tail marks events output) e q))

@@ -39,19 +39,19 @@ pub record Walked (g : Image) (start : ℕ) (marks area : List ℕ) (r : Reply) 
   pub totals : record { events = r .events + 1; elements = r .state .next - 1; moves = r .steps; circular = r .state .circular } ≡ totalsIn g start
   pub links : after′ ≡ g .after
   pub tails : tail′ ≡ g .tail
-  pub labels : marks′ ≡ marksLeft (g .n + g .m) (depthWalk g start) marks
-  pub events : area′ ≡ eventsLeft (depthWalk g start) area
+  pub labels : marks′ ≡ marksLeft (g .n + g .m) [] (depthWalk g [] start) marks
+  pub events : area′ ≡ eventsLeft (depthWalk g [] start) area
   pub same-marks : length marks′ ≡ length marks
   pub same-events : length area′ ≡ length area
 
 module _ {g : Image} {start : ℕ} {marks area : List ℕ} (K : CanWalk g start marks area) (k : ℕ) (enough : 9000 ≤ k) (fits : 6 * k ≤ 54000) where
   -- The events of the walk.
   abbrev all : History
-  all = depthWalk g start
+  all = depthWalk g [] start
 
   -- The line after the opening, and what the run is lent.
   abbrev first : Line
-  first = begun (opening g start marks area)
+  first = begun (opening g [] start marks area)
 
   abbrev room : List ℕ
   room = lentTo area first 54000
@@ -61,12 +61,12 @@ module _ {g : Image} {start : ℕ} {marks area : List ℕ} (K : CanWalk g start 
   list = runFor k room ∷ []
 
   abbrev line : Line
-  line = lineB folded g start marks area list
+  line = lineB folded g [] start marks area list
 
   -- The opening is taken.
-  taken : opening g start marks area ≡ openReply g start marks area
+  taken : opening g [] start marks area ≡ openReply g [] start marks area
   unfolding opening
-  taken = ap (λ (j : ℕ). unless j (unopened g start marks) area (openReply g start marks area)) (K .opens)
+  taken = ap (λ (j : ℕ). unless j (unopened g start marks) area (openReply g [] start marks area)) (K .opens)
 
   -- 54,000 words are left behind its event.
   room-long : 54000 ≤ length room
@@ -78,18 +78,18 @@ module _ {g : Image} {start : ℕ} {marks area : List ℕ} (K : CanWalk g start 
   -- k moves are enough: 2 m + n is at most 9,000.
   ended : line .config .phase ≡ finished
   ended =
-      let S = profile g start marks area (K .opens) .sound in
-      demand2 .ending g start marks area (K .opens) k room (omega (arith, enough, S .few-vertices, S .few-edges)) (omega (arith, fits, room-long))
+      let S = profile g [] start marks area (K .opens) .sound in
+      demand2 .ending g [] start marks area (K .opens) k room (omega (arith, enough, S .few-vertices, S .few-edges)) (omega (arith, fits, room-long))
 
   -- The line beside line A; the elements reached are those that the walk labels.
-  agrees : Agrees g start (labelled all) line
+  agrees : Agrees g [] start (labelled all) line
   agrees =
-      let P = profile g start marks area (K .opens) in
-      agreement g start marks area (K .opens) (labelled all) (depth-first (graphOf g) [] start (profile-ready g (P .sound) start (P .start-vertex)) .complete .labels) list
+      let P = profile g [] start marks area (K .opens) in
+      agreement g [] start marks area (K .opens) (labelled all) (depth-first (graphOf g) [] start (profile-ready g (P .sound) [] start (P .start-vertex) (P .listed)) .complete .labels) list
 
   -- The line has the labels of its events.
-  labelling : Labelling g start marks line
-  labelling = demand2 .labelling g start marks area (K .opens) list
+  labelling : Labelling g [] start marks line
+  labelling = demand2 .labelling g [] start marks area (K .opens) list
 
   -- Its events are those of the walk.
   events-are : line .events ≡ reverse all
@@ -105,7 +105,7 @@ module _ {g : Image} {start : ℕ} {marks area : List ℕ} (K : CanWalk g start 
   moves-are = agrees .ends refl .0 ended
 
   -- The promise of `open`, on any answer and areas.
-  module _ (o : Reply) {marks₁ area₁ : List ℕ} (eo : told o (g .after) (g .tail) marks₁ area₁ ≡ seenOf (opening g start marks area)) where
+  module _ (o : Reply) {marks₁ area₁ : List ℕ} (eo : told o (g .after) (g .tail) marks₁ area₁ ≡ seenOf (opening g [] start marks area)) where
     -- It has made one event and no move.
     one : o .events ≡ 1
     one = ap (λ (s : Seen). s .count) (eo ∙ ap seenOf taken)
@@ -120,7 +120,7 @@ module _ {g : Image} {start : ℕ} {marks area : List ℕ} (K : CanWalk g start 
     same-long : length area₁ ≡ length area
     same-long =
         let l = K .long in
-        ap (λ (s : Seen). length (s .area)) (eo ∙ ap seenOf taken) ∙ length-overlay (words (openReply g start marks area .events)) area (omega arith)
+        ap (λ (s : Seen). length (s .area)) (eo ∙ ap seenOf taken) ∙ length-overlay (words (openReply g [] start marks area .events)) area (omega arith)
 
     -- The promise of `run`, on the part behind that event.
     module _ (r : Reply) {after′ tail′ marks′ part : List ℕ} (er : told r after′ tail′ marks′ part ≡ seenOf (serve (configOf (o .state) (g .after) (g .tail) marks₁) (runFor k (midOf 3 54000 area₁)))) where
@@ -141,31 +141,31 @@ module _ {g : Image} {start : ℕ} {marks area : List ℕ} (K : CanWalk g start 
       whole =
           let made : o .events + r .events ≡ length (line .events) = ap (λ (s : Seen). s .count) seen in
           let steps : o .steps + r .steps ≡ line .steps = ap (λ (s : Seen). s .steps) seen in
-          let few = events-few g start marks area (K .opens) list in
-          let next : r .state .next ≡ suc (length (labelled all)) = ap (λ (w : Config). w .next) config-is ∙ next-counts g start marks area (K .opens) list ∙ ap (λ (h : History). suc (length (labelled h))) history-is in
+          let few = events-few g [] start marks area (K .opens) list in
+          let next : r .state .next ≡ suc (length (labelled all)) = ap (λ (w : Config). w .next) config-is ∙ next-counts g [] start marks area (K .opens) list ∙ ap (λ (h : History). suc (length (labelled h))) history-is in
           let many : r .events + 1 ≡ length all = omega (arith, one, made, ap length events-are, length-reverse all) in
           let elements : r .state .next - 1 ≡ length (labelled all) = omega arith in
           let moves : r .steps ≡ movesOf (graphOf g) (labelled all) = omega (arith, none, moves-are) in
           let circular : r .state .circular ≡ circularOf (graphOf g) all = ap (λ (w : Config). w .circular) config-is ∙ labelling .circular ∙ ap (circularOf (graphOf g)) history-is in
           let restored = agrees .restored (inl ended) in
-          let labels : marks′ ≡ marksLeft (g .n + g .m) all marks = ap (λ (w : Config). w .marks) config-is ∙ labelling .labels ended ∙ ap (λ (h : History). marksLeft (g .n + g .m) h marks) history-is in
+          let labels : marks′ ≡ marksLeft (g .n + g .m) [] all marks = ap (λ (w : Config). w .marks) config-is ∙ labelling .labels ended ∙ ap (λ (h : History). marksLeft (g .n + g .m) [] h marks) history-is in
           let events : putMid 3 54000 area₁ part ≡ eventsLeft all area = ap (λ (s : Seen). s .area) seen ∙ ap (λ (es : List Event). overlay (words es) area) events-are in
           let l = K .long in
           record {
             few-events = omega (arith, few);
-            few-moves = omega (arith, steps-few g start marks area (K .opens) list);
+            few-moves = omega (arith, steps-few g [] start marks area (K .opens) list);
             some-label = omega (arith, next);
             totals = λ i. record { events = many i; elements = elements i; moves = moves i; circular = circular i };
             links = ap (λ (w : Config). w .after) config-is ∙ restored .0;
             tails = ap (λ (w : Config). w .tail) config-is ∙ restored .1;
             labels = labels;
             events = events;
-            same-marks = ap length labels ∙ marks-length (g .n + g .m) all marks (marks-long g start marks area (K .opens));
+            same-marks = ap length labels ∙ marks-length (g .n + g .m) [] all marks (marks-long g [] start marks area (K .opens));
             same-events = ap length events ∙ length-overlay (words (reverse all)) area (omega (arith, few, ap length events-are, words-length (reverse all)));
           }
 
 -- The same, with the budget that the run was given.
-pub walked : {g : Image} {start : ℕ} {marks area : List ℕ} → CanWalk g start marks area → (o : Reply) {marks₁ area₁ : List ℕ} → told o (g .after) (g .tail) marks₁ area₁ ≡ seenOf (opening g start marks area)
+pub walked : {g : Image} {start : ℕ} {marks area : List ℕ} → CanWalk g start marks area → (o : Reply) {marks₁ area₁ : List ℕ} → told o (g .after) (g .tail) marks₁ area₁ ≡ seenOf (opening g [] start marks area)
     → (r : Reply) {k : ℕ} {after′ tail′ marks′ part : List ℕ} → told r after′ tail′ marks′ part ≡ seenOf (serve (configOf (o .state) (g .after) (g .tail) marks₁) (runFor k (midOf 3 54000 area₁)))
     → 9000 ≤ k → 6 * k ≤ 54000 → Walked g start marks area r after′ tail′ marks′ (putMid 3 54000 area₁ part)
 walked K o eo r {k = k} er enough fits = whole K k enough fits o eo r er

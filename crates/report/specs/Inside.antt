@@ -25,9 +25,9 @@ printedFrom events t = eventNames ++ (rows (take (3 * t .events) events) ++ (tot
 
 -- The totals of the walk of an image.
 abbrev pub totalsIn : Image → ℕ → Totals
-totalsIn g start = record { events = length (depthWalk g start); elements = length (labelled (depthWalk g start)); moves = movesOf (graphOf g) (labelled (depthWalk g start)); circular = circularOf (graphOf g) (depthWalk g start) }
+totalsIn g start = record { events = length (depthWalk g [] start); elements = length (labelled (depthWalk g [] start)); moves = movesOf (graphOf g) (labelled (depthWalk g [] start)); circular = circularOf (graphOf g) (depthWalk g [] start) }
 
 -- An image that can be walked from start with these areas.
 pub record CanWalk (g : Image) (start : ℕ) (marks events : List ℕ) : Type 0 where
-  pub opens : openNumber g start marks events ≡ 0
+  pub opens : openNumber g [] start marks events ≡ 0
   pub long : 54003 ≤ length events

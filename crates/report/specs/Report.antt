@@ -60,7 +60,7 @@ abbrev pub reported : Reading → (after tail marks events output : List ℕ) �
 reported (refused k) after tail marks events output =
     record { number = k; bytes = pastAt (refusalPrinted k) 0 output; output = putAt (refusalPrinted k) 0 output; after = after; tail = tail; marks = marks; events = events }
 reported (loaded p) after tail marks events output =
-    record { number = 0; bytes = length (walkPrinted (graphFrom p) (p .start)); output = overlay (walkPrinted (graphFrom p) (p .start)) output; after = overlay (afterOf p) after; tail = overlay (tailOf p) tail; marks = marksLeft (p .n + p .m) (walkFrom p) marks; events = eventsLeft (walkFrom p) events }
+    record { number = 0; bytes = length (walkPrinted (graphFrom p) (p .start)); output = overlay (walkPrinted (graphFrom p) (p .start)) output; after = overlay (afterOf p) after; tail = overlay (tailOf p) tail; marks = marksLeft (p .n + p .m) [] (walkFrom p) marks; events = eventsLeft (walkFrom p) events }
 
 -- What the call makes of any text, on any areas.
 unfoldable pub reportOf : (text after tail marks events output : List ℕ) → Told

@@ -1,8 +1,9 @@
-// The folded walk of a whole profile: an opening, and one run.
+// The folded walk of a whole profile: an opening, with no element on the blank, and one run.
 use images::Vertex;
 use walkers::open;
 use walkers::run;
 ghost use mathlib.Core.Path.{_≡_};
+ghost use mathlib.Core.List.{[]};
 ghost use Prim.Native.Nat.{_+_};
 ghost use Rattle.images.specs.Checking.{image};
 ghost use Rattle.graphs.specs.Results.{marksLeft, eventsLeft};
@@ -31,10 +32,10 @@ pub(crate) fn walk_whole(
     ensures totals { λ r. ⌜ r ≡ totalsIn (image n m (now (after .entry)) (now (tail .entry))) (start .0) ⌝ }
     ensures links { λ r. ⌜ now (after .exit) ≡ now (after .entry) ⌝ }
     ensures tails { λ r. ⌜ now (tail .exit) ≡ now (tail .entry) ⌝ }
-    ensures marks { λ r. ⌜ now (marks .exit) ≡ marksLeft (n + m) (depthWalk (image n m (now (after .entry)) (now (tail .entry))) (start .0)) (now (marks .entry)) ⌝ }
-    ensures events { λ r. ⌜ now (events .exit) ≡ eventsLeft (depthWalk (image n m (now (after .entry)) (now (tail .entry))) (start .0)) (now (events .entry)) ⌝ }
+    ensures marks { λ r. ⌜ now (marks .exit) ≡ marksLeft (n + m) [] (depthWalk (image n m (now (after .entry)) (now (tail .entry))) [] (start .0)) (now (marks .entry)) ⌝ }
+    ensures events { λ r. ⌜ now (events .exit) ≡ eventsLeft (depthWalk (image n m (now (after .entry)) (now (tail .entry))) [] (start .0)) (now (events .entry)) ⌝ }
 {
-    let o = open(n, m, start, after, tail, marks, events);
+    let o = open(n, m, start, after, tail, &[], marks, events);
     let s = o.state;
     let r = run(s, 9000, after, tail, marks, &mut events[3..54003]);
     let t = r.state;

@@ -140,21 +140,21 @@ calls-append l [] ds = refl
 calls-append l (c ∷ cs) ds = calls-append (noted l c (serve (l .config) c)) cs ds
 
 -- The steps and events of all, after one call more.
-line-few : (g : Image) (start : ℕ) (marks area : List ℕ) → openNumber g start marks area ≡ 0 → (cs : List Call) (c : Call) (l : Line) → l ≡ lineB folded g start marks area cs → (l .steps + serve (l .config) c .steps ≤ 14000) × (length (l .events ++ serve (l .config) c .events) ≤ 10000)
+line-few : (g : Image) (before : List ℕ) (start : ℕ) (marks area : List ℕ) → openNumber g before start marks area ≡ 0 → (cs : List Call) (c : Call) (l : Line) → l ≡ lineB folded g before start marks area cs → (l .steps + serve (l .config) c .steps ≤ 14000) × (length (l .events ++ serve (l .config) c .events) ≤ 10000)
 unfolding calls
-line-few g start marks area h cs c l e =
-    let more : lineB folded g start marks area (cs ++ (c ∷ [])) ≡ noted l c (serve (l .config) c) = calls-append (begun (opening g start marks area)) cs (c ∷ []) ∙ ap (λ (x : Line). noted x c (serve (x .config) c)) (sym e) in
-    (subst (λ (x : Line). x .steps ≤ 14000) more (steps-few g start marks area h (cs ++ (c ∷ []))), subst (λ (x : Line). length (x .events) ≤ 10000) more (events-few g start marks area h (cs ++ (c ∷ []))))
+line-few g before start marks area h cs c l e =
+    let more : lineB folded g before start marks area (cs ++ (c ∷ [])) ≡ noted l c (serve (l .config) c) = calls-append (begun (opening g before start marks area)) cs (c ∷ []) ∙ ap (λ (x : Line). noted x c (serve (x .config) c)) (sym e) in
+    (subst (λ (x : Line). x .steps ≤ 14000) more (steps-few g before start marks area h (cs ++ (c ∷ []))), subst (λ (x : Line). length (x .events) ≤ 10000) more (events-few g before start marks area h (cs ++ (c ∷ []))))
 
 module _ {p : Reply} {after tail marks now : List ℕ} (P : Playing p after tail marks now) where
   -- The words of the events so far are in the area.
   pub from-low : 3 * p .events ≤ length now
-  from-low = from-in p after tail marks now (P .area₀) (lineB folded (P .image) (P .start) (P .marks₀) (P .area₀) (P .list)) (P .line)
+  from-low = from-in p after tail marks now (P .area₀) (lineB folded (P .image) (P .before) (P .start) (P .marks₀) (P .area₀) (P .list)) (P .line)
 
   pub few : (r : Reply) (after′ tail′ marks′ part : List ℕ) (c : Call) → told r after′ tail′ marks′ part ≡ seenOf (serve (configOf (p .state) after tail marks) c) → (p .steps + r .steps ≤ 4294967295) × (p .events + r .events ≤ 4294967295)
   few r after′ tail′ marks′ part c h =
-      let l : Line = lineB folded (P .image) (P .start) (P .marks₀) (P .area₀) (P .list) in
-      let F = line-few (P .image) (P .start) (P .marks₀) (P .area₀) (P .opened) (P .list) c l refl in
+      let l : Line = lineB folded (P .image) (P .before) (P .start) (P .marks₀) (P .area₀) (P .list) in
+      let F = line-few (P .image) (P .before) (P .start) (P .marks₀) (P .area₀) (P .opened) (P .list) c l refl in
       let k = ap (λ (w : Config). seenOf (serve w c)) (ap (λ (s : Seen). s .config) (P .line)) in
       let steps : r .steps ≡ serve (l .config) c .steps = ap (λ (s : Seen). s .steps) (h ∙ k) in
       let made : r .events ≡ length (serve (l .config) c .events) = ap (λ (s : Seen). s .count) (h ∙ k) in
@@ -182,25 +182,25 @@ next-three script at h =
     ∙ ap (λ (s : List ℕ). getD script (at + 1) 0 ∷ s) (ap (λ (j : ℕ). drop j script) b ∙ drop-cons script (at + 2) 0 (omega arith) ∙ ap (λ (j : ℕ). getD script (at + 2) 0 ∷ drop j script) d))
 
 -- A script performed up to a place: the calls so far, and what those that are left lead to.
-pub record Played (g : Image) (start : ℕ) (old area script : List ℕ) (at : ℕ) (p : Reply) (after tail marks now : List ℕ) : Type 0 where
-  pub opened : openNumber g start old area ≡ 0
+pub record Played (g : Image) (before : List ℕ) (start : ℕ) (old area script : List ℕ) (at : ℕ) (p : Reply) (after tail marks now : List ℕ) : Type 0 where
+  pub opened : openNumber g before start old area ≡ 0
   pub list : List Call
-  pub line : told p after tail marks now ≡ seenLine area (lineB folded g start old area list)
-  pub rest : replayed g start old area script ≡ calls folded (lineB folded g start old area list) (scripted (lineB folded g start old area list) area (drop at script))
+  pub line : told p after tail marks now ≡ seenLine area (lineB folded g before start old area list)
+  pub rest : replayed g before start old area script ≡ calls folded (lineB folded g before start old area list) (scripted (lineB folded g before start old area list) area (drop at script))
 
-module _ {g : Image} {start : ℕ} {old area script : List ℕ} {at : ℕ} {p : Reply} {after tail marks now : List ℕ} (P : Played g start old area script at p after tail marks now) where
+module _ {g : Image} {before : List ℕ} {start : ℕ} {old area script : List ℕ} {at : ℕ} {p : Reply} {after tail marks now : List ℕ} (P : Played g before start old area script at p after tail marks now) where
   pub playing : Playing p after tail marks now
-  playing = record { image = g; start = start; marks₀ = old; area₀ = area; list = P .list; opened = P .opened; line = P .line }
+  playing = record { image = g; before = before; start = start; marks₀ = old; area₀ = area; list = P .list; opened = P .opened; line = P .line }
 
   -- The next three words.
   pub next-played : {q : Reply} {after′ tail′ marks′ now′ : List ℕ} → 3 ≤ length script - at
       → ((area : List ℕ) (l : Line) → told p after tail marks now ≡ seenLine area l → told q after′ tail′ marks′ now′ ≡ seenLine area (calls folded l (calledBy (getD script at 0) (getD script (at + 1) 0) (lentTo area l (getD script (at + 2) 0)))))
-      → Played g start old area script (at + 3) q after′ tail′ marks′ now′
+      → Played g before start old area script (at + 3) q after′ tail′ marks′ now′
   unfolding scripted
   next-played h f =
-      let l : Line = lineB folded g start old area (P .list) in
+      let l : Line = lineB folded g before start old area (P .list) in
       let new : List Call = calledBy (getD script at 0) (getD script (at + 1) 0) (lentTo area l (getD script (at + 2) 0)) in
-      let more = sym (calls-append (begun (opening g start old area)) (P .list) new) in
+      let more = sym (calls-append (begun (opening g before start old area)) (P .list) new) in
       record {
         opened = P .opened;
         list = P .list ++ new;
@@ -212,54 +212,54 @@ module _ {g : Image} {start : ℕ} {old area script : List ℕ} {at : ℕ} {p : 
       }
 
   -- Fewer than three words are left.
-  pub last-played : length script - at < 3 → told p after tail marks now ≡ seenLine area (replayed g start old area script)
+  pub last-played : length script - at < 3 → told p after tail marks now ≡ seenLine area (replayed g before start old area script)
   unfolding calls
   last-played h =
-      let l : Line = lineB folded g start old area (P .list) in
+      let l : Line = lineB folded g before start old area (P .list) in
       P .line ∙ ap (seenLine area) (sym (P .rest ∙ ap (calls folded l) (scripted-short l area (drop at script) (omega (arith, length-drop at script)))))
 
 -- ---- the opening
-module _ (g : Image) (start : ℕ) (old area script : List ℕ) where
+module _ (g : Image) (before : List ℕ) (start : ℕ) (old area script : List ℕ) where
   -- An opening writes its events in front of its area.
-  opening-seen : seenOf (opening g start old area) ≡ seenLine area (begun (opening g start old area))
+  opening-seen : seenOf (opening g before start old area) ≡ seenLine area (begun (opening g before start old area))
   unfolding opening
-  opening-seen = go (openNumber g start old area)
+  opening-seen = go (openNumber g before start old area)
     where
-      go : (k : ℕ) → seenOf (unless k (unopened g start old) area (openReply g start old area)) ≡ seenLine area (begun (unless k (unopened g start old) area (openReply g start old area)))
+      go : (k : ℕ) → seenOf (unless k (unopened g start old) area (openReply g before start old area)) ≡ seenLine area (begun (unless k (unopened g start old) area (openReply g before start old area)))
       go zero = refl
       go (suc k) = refl
 
   -- How many events an opening of this number has.
   abbrev eventsOf : ℕ → ℕ
-  eventsOf k = length (unless k (unopened g start old) area (openReply g start old area) .events)
+  eventsOf k = length (unless k (unopened g start old) area (openReply g before start old area) .events)
 
-  module _ (p : Reply) {after tail marks now : List ℕ} (h : told p after tail marks now ≡ seenOf (opening g start old area)) where
-    count-is : (k : ℕ) → openNumber g start old area ≡ k → p .events ≡ eventsOf k
+  module _ (p : Reply) {after tail marks now : List ℕ} (h : told p after tail marks now ≡ seenOf (opening g before start old area)) where
+    count-is : (k : ℕ) → openNumber g before start old area ≡ k → p .events ≡ eventsOf k
     unfolding opening
     count-is k q = ap (λ (s : Seen). s .count) h ∙ ap eventsOf q
 
     -- A refused opening: no call is made.
-    pub none-made : p .events ≡ 0 → told p after tail marks now ≡ seenLine area (replayed g start old area script)
+    pub none-made : p .events ≡ 0 → told p after tail marks now ≡ seenLine area (replayed g before start old area script)
     unfolding calls
-    none-made z = h ∙ opening-seen ∙ ap (λ (b : Bool). seenLine area (lineB folded g start old area (cond b (scripted (begun (opening g start old area)) area script) []))) (sym (go (openNumber g start old area) refl))
+    none-made z = h ∙ opening-seen ∙ ap (λ (b : Bool). seenLine area (lineB folded g before start old area (cond b (scripted (begun (opening g before start old area)) area script) []))) (sym (go (openNumber g before start old area) refl))
       where
-        go : (k : ℕ) → openNumber g start old area ≡ k → eqb (openNumber g start old area) 0 ≡ false
+        go : (k : ℕ) → openNumber g before start old area ≡ k → eqb (openNumber g before start old area) 0 ≡ false
         go zero q = absurd (omega (arith, count-is zero q))
-        go (suc k) q = ne-eqb (openNumber g start old area) 0 (omega arith)
+        go (suc k) q = ne-eqb (openNumber g before start old area) 0 (omega arith)
 
     -- An opening that is taken: no word of the script is performed yet.
-    first-played : p .events ≢ 0 → Played g start old area script 0 p after tail marks now
+    first-played : p .events ≢ 0 → Played g before start old area script 0 p after tail marks now
     unfolding calls
     first-played ne =
-        let z : openNumber g start old area ≡ 0 = go (openNumber g start old area) refl in
+        let z : openNumber g before start old area ≡ 0 = go (openNumber g before start old area) refl in
         record {
           opened = z;
           list = [];
           line = h ∙ opening-seen;
-          rest = ap (λ (k : ℕ). lineB folded g start old area (cond (eqb k 0) (scripted (begun (opening g start old area)) area script) [])) z;
+          rest = ap (λ (k : ℕ). lineB folded g before start old area (cond (eqb k 0) (scripted (begun (opening g before start old area)) area script) [])) z;
         }
       where
-        go : (k : ℕ) → openNumber g start old area ≡ k → openNumber g start old area ≡ 0
+        go : (k : ℕ) → openNumber g before start old area ≡ k → openNumber g before start old area ≡ 0
         go zero q = q
         go (suc k) q = absurd (ne (count-is (suc k) q))
 
@@ -270,9 +270,9 @@ pub record Going (script : List ℕ) (at₀ : ℕ) (p₀ : Reply) (after₀ tail
   pub same-tail : length tail ≡ length tail₀
   pub same-marks : length marks ≡ length marks₀
   pub same-now : length now ≡ length now₀
-  pub goes : (g : Image) (start : ℕ) (old area : List ℕ) → Played g start old area script at₀ p₀ after₀ tail₀ marks₀ now₀ → Played g start old area script at p after tail marks now
+  pub goes : (g : Image) (before : List ℕ) (start : ℕ) (old area : List ℕ) → Played g before start old area script at₀ p₀ after₀ tail₀ marks₀ now₀ → Played g before start old area script at p after tail marks now
 
 -- From the opening to the loop's place.
-pub so-far : {script : List ℕ} {p₀ : Reply} {after₀ tail₀ marks₀ now₀ : List ℕ} {at : ℕ} {p : Reply} {after tail marks now : List ℕ} (g : Image) (start : ℕ) (old area : List ℕ) → Going script 0 p₀ after₀ tail₀ marks₀ now₀ at p after tail marks now
-    → told p₀ after₀ tail₀ marks₀ now₀ ≡ seenOf (opening g start old area) → p₀ .events ≢ 0 → Played g start old area script at p after tail marks now
-so-far {script = script} {p₀ = p₀} g start old area G h ne = G .goes g start old area (first-played g start old area script p₀ h ne)
+pub so-far : {script : List ℕ} {p₀ : Reply} {after₀ tail₀ marks₀ now₀ : List ℕ} {at : ℕ} {p : Reply} {after tail marks now : List ℕ} (g : Image) (before : List ℕ) (start : ℕ) (old area : List ℕ) → Going script 0 p₀ after₀ tail₀ marks₀ now₀ at p after tail marks now
+    → told p₀ after₀ tail₀ marks₀ now₀ ≡ seenOf (opening g before start old area) → p₀ .events ≢ 0 → Played g before start old area script at p after tail marks now
+so-far {script = script} {p₀ = p₀} g before start old area G h ne = G .goes g before start old area (first-played g before start old area script p₀ h ne)

@@ -28,9 +28,9 @@ scripted l area (call ∷ budget ∷ []) = []
 scripted l area (call ∷ []) = []
 scripted l area [] = []
 
--- Line B under a script; the opening is lent the whole event area. Where it is refused, no call is made.
-abbrev pub replayed : Image → ℕ → (marks area script : List ℕ) → Line
-replayed g start marks area script = lineB folded g start marks area (cond (eqb (openNumber g start marks area) 0) (scripted (begun (opening g start marks area)) area script) [])
+-- Line B under a script, with the elements on the blank; the opening is lent the whole event area. Where it is refused, no call is made.
+abbrev pub replayed : Image → List ℕ → ℕ → (marks area script : List ℕ) → Line
+replayed g before start marks area script = lineB folded g before start marks area (cond (eqb (openNumber g before start marks area) 0) (scripted (begun (opening g before start marks area)) area script) [])
 
 -- The last answer of a line.
 abbrev pub lastOf : List Answer → Answer
@@ -45,9 +45,10 @@ seenLine area l = record { answer = lastOf (l .answers); steps = l .steps; count
 -- A line that an opening taken has led to.
 pub record Playing (p : Reply) (after tail marks area : List ℕ) : Type 0 where
   pub image : Image
+  pub before : List ℕ
   pub start : ℕ
   pub marks₀ : List ℕ
   pub area₀ : List ℕ
   pub list : List Call
-  pub opened : openNumber image start marks₀ area₀ ≡ 0
-  pub line : told p after tail marks area ≡ seenLine area₀ (lineB folded image start marks₀ area₀ list)
+  pub opened : openNumber image before start marks₀ area₀ ≡ 0
+  pub line : told p after tail marks area ≡ seenLine area₀ (lineB folded image before start marks₀ area₀ list)

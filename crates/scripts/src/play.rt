@@ -71,22 +71,24 @@ fn perform(
     p
 }
 
-// Opens a search, and performs a script of calls: three words for each, which call, its budget, and how many event words it is lent, which
-// stand behind the events so far. The opening is refused by 1, 2, 3, 4, 5, 6, 7, and then no call is made; a call of the script that is
-// refused changes nothing, and the next one follows. Answers the last call's answer, the steps and the events of all, and the state.
+// Opens a search with the elements already on the blank, and performs a script of calls: three words for each, which call, its budget, and
+// how many event words it is lent, which stand behind the events so far. The opening is refused by 1, 2, 3, 4, 5, 6, 7, 17, 18, and then no
+// call is made; a call of the script that is refused changes nothing, and the next one follows. Answers the last call's answer, the steps
+// and the events of all, and the state.
 pub fn replay(
     n: u16,
     m: u16,
     start: Vertex,
     after: &mut [u16],
     tail: &mut [u16],
+    before: &[u16],
     marks: &mut [u16],
     events: &mut [u16],
     script: &[u32],
 ) -> Reply
-    ensures { λ r. ⌜ told r (now (after .exit)) (now (tail .exit)) (now (marks .exit)) (now (events .exit)) ≡ seenLine (now (events .entry)) (replayed (image n m (now (after .entry)) (now (tail .entry))) (start .0) (now (marks .entry)) (now (events .entry)) (now (script .entry))) ⌝ }
+    ensures { λ r. ⌜ told r (now (after .exit)) (now (tail .exit)) (now (marks .exit)) (now (events .exit)) ≡ seenLine (now (events .entry)) (replayed (image n m (now (after .entry)) (now (tail .entry))) (now (before .entry)) (start .0) (now (marks .entry)) (now (events .entry)) (now (script .entry))) ⌝ }
 {
-    let mut p = open(n, m, start, after, tail, marks, events);
+    let mut p = open(n, m, start, after, tail, before, marks, events);
     if p.events == 0 {
         return p;
     }

@@ -1,4 +1,5 @@
-// The opening: the image is checked, the marks are cleared, the start is labelled.
+// The opening: the image is checked and the list of elements already on the blank, the marks are cleared but for these, the start is
+// labelled.
 use crate::values::Answer;
 use crate::values::Reply;
 use crate::values::State;
@@ -43,27 +44,28 @@ fn no_state(n: u16, m: u16, start: Vertex) -> State
     }
 }
 
-// Opens a folded search of a linked image from start, with n + m marks and 3 event words. Refused by 1, 2, 3 (all areas), 4, 5, 6, 7; the
-// state of a refused opening is none: its phase is 0, and every call refuses it.
+// Opens a folded search of a linked image from start, with the elements already on the blank, n + m marks and 3 event words. Refused by
+// 1, 2, 3 (all areas), 4, 5, 6, 7, 17, 18; the state of a refused opening is none: its phase is 0, and every call refuses it.
 pub fn open(
     n: u16,
     m: u16,
     start: Vertex,
     after: &[u16],
     tail: &[u16],
+    before: &[u16],
     marks: &mut [u16],
     events: &mut [u16],
 ) -> Reply
-    ensures { λ r. ⌜ told r (now (after .entry)) (now (tail .entry)) (now (marks .exit)) (now (events .exit)) ≡ seenOf (opening (image n m (now (after .entry)) (now (tail .entry))) (start .0) (now (marks .entry)) (now (events .entry))) ⌝ }
+    ensures { λ r. ⌜ told r (now (after .entry)) (now (tail .entry)) (now (marks .exit)) (now (events .exit)) ≡ seenOf (opening (image n m (now (after .entry)) (now (tail .entry))) (now (before .entry)) (start .0) (now (marks .entry)) (now (events .entry))) ⌝ }
 {
     let x = start.0;
     let nodes = n as usize + m as usize;
     let long = is_long(nodes, marks.len(), events.len());
-    let k = search_number(n, m, start, after, tail, long);
+    let k = search_number(n, m, start, after, tail, before, long);
     if k != 0 {
         return refused(k, no_state(n, m, start));
     }
-    begin(marks, events, nodes, x);
+    begin(marks, events, nodes, before, x);
     let i = x as usize - 1;
     marks[i] = 32769; // 32,768 more than its number, since it is not yet scanned
     let e = Edge(after[i]);

@@ -278,7 +278,7 @@ load-claim text after tail p e =
     let b = tail-in p after tail many (c .0 .1 .1 .1 .1 .0) in
     let d = list-in p after tail many (c .0 .1 .1 .1 .1 .0) in
     record {
-      profile-sound = λ i. not (c .0 .0 i || (c .0 .1 .0 i || (c .0 .1 .1 .1 .0 i || (a i || (b i || d i)))));
+      profile-sound = λ i. not (c .0 .0 i || (c .0 .1 .0 i || (c .0 .1 .1 .1 .0 i || (a i || (b i || (d i || false))))));
       lists = list-lines p after tail many;
       targets = line-targets p after tail many;
     }

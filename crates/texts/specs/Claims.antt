@@ -2,7 +2,7 @@
 use mathlib.Core.Path.{_≡_}
 use mathlib.Core.Logic.{_↔_}
 use mathlib.Core.Bool.{true, false}
-use mathlib.Core.List.{List, map}
+use mathlib.Core.List.{List, [], map}
 use mathlib.Core.Option.{some}
 use Prim.Native.Nat.{ℕ, suc, _+_, _*_, _≤_}
 use lib.ListN.{length}
@@ -31,7 +31,7 @@ pub record ReadAlikeClaim : Type 0 where
 -- A profile loaded is sound. Each element's list has the edges of its value lines, in line order; the k-th value line is edge n + k,
 -- which leads to the line's to.
 pub record Loads (p : Listing) (after tail : List ℕ) : Type 0 where
-  pub profile-sound : sound (imageIn p after tail) (p .start) ≡ true
+  pub profile-sound : sound (imageIn p after tail) [] (p .start) ≡ true
   pub lists : (u : ℕ) → Vertex (p .n) u → edgesOf (imageIn p after tail) u ≡ edgesFrom u (suc (p .n)) (p .lines)
   pub targets : map (to (imageIn p after tail)) (valuesFrom (λ r. r) (p .n) (p .m)) ≡ tailOf p
 

@@ -7,7 +7,7 @@ pub(crate) const SPAN: usize = 5100;
 
 pub(crate) const WIDE: usize = 30600;
 
-pub(crate) type Desk = [u16; 96900];
+pub(crate) type Desk = [u16; 102000];
 
 // The profile: for each edge the vertex that it leaves and the one that it leads to, and the order in which edges come onto lists.
 pub(crate) const FROMS: usize = 0;
@@ -41,10 +41,13 @@ pub(crate) const OWN: usize = 10;
 
 pub(crate) const NUMBERS: usize = 11;
 
-// The words of a case that are no area: see below.
-pub(crate) const CASE: usize = 12;
+// The list of the elements already on the blank.
+pub(crate) const BLANK: usize = 12;
 
-pub(crate) const EVENTS: usize = 13;
+// The words of a case that are no area: see below.
+pub(crate) const CASE: usize = 13;
+
+pub(crate) const EVENTS: usize = 14;
 
 // Words of a case. What the second implementation counts: vertices being scanned; from 1 on, events by kind; event words; labels.
 pub(crate) const DEPTH: usize = 0;
@@ -53,30 +56,44 @@ pub(crate) const WORDS: usize = 8;
 
 pub(crate) const LABELS: usize = 9;
 
-// The sizes, the start, the length that each of five areas is lent at, the walker, the seed of the profile.
-pub(crate) const N: usize = 10;
+// What was met in a case, for each of 16 things how often: see the tally.
+pub(crate) const NOTES: usize = 10;
 
-pub(crate) const M: usize = 11;
+// The sizes, the start, the length that each of five areas is lent at, and that of the list; the walker, the seed of the profile, the
+// form of the list.
+pub(crate) const N: usize = 26;
 
-pub(crate) const START: usize = 12;
+pub(crate) const M: usize = 27;
 
-pub(crate) const LENGTHS: usize = 13;
+pub(crate) const START: usize = 28;
 
-pub(crate) const WALKER: usize = 18;
+pub(crate) const LENGTHS: usize = 29;
 
-pub(crate) const SEED: usize = 19;
+pub(crate) const LISTED: usize = 34;
+
+pub(crate) const WALKER: usize = 35;
+
+pub(crate) const SEED: usize = 36;
+
+pub(crate) const FORM: usize = 37;
+
+// How many words of the list are used up.
+pub(crate) const USED: usize = 38;
+
+// The number that is written down for the case.
+pub(crate) const WRITTEN: usize = 39;
 
 // What an area holds before a call, in every word.
 pub(crate) const UNTOUCHED: u16 = 60001;
 
 // Word i of an area of the desk.
 pub(crate) fn get_at(d: &Desk, area: usize, i: usize) -> u16 {
-    if i < WIDE { d[area % 14 * SPAN + i] } else { 0 }
+    if i < WIDE { d[area % 15 * SPAN + i] } else { 0 }
 }
 
 pub(crate) fn put_at(d: &mut Desk, area: usize, i: usize, w: u16) {
     if i < WIDE {
-        d[area % 14 * SPAN + i] = w;
+        d[area % 15 * SPAN + i] = w;
     }
 }
 
@@ -124,7 +141,7 @@ fn span(d: &[u16], start: usize, end: usize) -> &[u16] {
 
 // The first words of an area of the desk.
 pub(crate) fn part(d: &Desk, area: usize, length: u16) -> &[u16] {
-    let start = area % 14 * SPAN;
+    let start = area % 15 * SPAN;
     span(d, start, start + length as usize)
 }
 

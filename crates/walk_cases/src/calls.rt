@@ -1,7 +1,9 @@
 // The calls that the cases are of. No other file names the crates that they are in.
+use crate::areas::BLANK;
 use crate::areas::Desk;
 use crate::areas::LENGTHS;
 use crate::areas::LINKS;
+use crate::areas::LISTED;
 use crate::areas::M;
 use crate::areas::N;
 use crate::areas::START;
@@ -30,6 +32,7 @@ fn call(
     start: u16,
     links: &[u16],
     tails: &[u16],
+    before: &[u16],
     moved: &mut [u16],
     marks: &mut [u16],
     own: &mut [u16],
@@ -37,21 +40,21 @@ fn call(
 ) -> Walked {
     let v = images::Vertex(start);
     if walker == 0 {
-        return walkers::dfs_recursive(n, m, v, links, tails, marks, events);
+        return walkers::dfs_recursive(n, m, v, links, tails, before, marks, events);
     }
     if walker == PARENT {
-        return walkers::dfs_parent(n, m, v, links, tails, marks, own, events);
+        return walkers::dfs_parent(n, m, v, links, tails, before, marks, own, events);
     }
     if walker == ARRAY {
-        return walkers::dfs_array(n, m, v, links, moved, marks, own, events);
+        return walkers::dfs_array(n, m, v, links, moved, before, marks, own, events);
     }
     if walker == QUEUE {
-        return walkers::bfs_queue(n, m, v, links, tails, marks, own, events);
+        return walkers::bfs_queue(n, m, v, links, tails, before, marks, own, events);
     }
-    walkers::bfs_folded(n, m, v, moved, tails, marks, events)
+    walkers::bfs_folded(n, m, v, moved, tails, before, marks, events)
 }
 
-// Calls the walker of the case on the desk, with parts of the links there and of these areas.
+// Calls the walker of the case on the desk, with parts of the links there and of these areas, and the list there.
 pub(crate) fn call_lent(
     d: &Desk,
     walker: u16,
@@ -67,6 +70,7 @@ pub(crate) fn call_lent(
         said(d, START),
         part(d, LINKS, said(d, LENGTHS)),
         part(d, TAILS, said(d, LENGTHS + 1)),
+        part(d, BLANK, said(d, LISTED)),
         lent(moved, said(d, LENGTHS + moved_area(walker) % 2)),
         lent(marks, said(d, LENGTHS + 2)),
         lent(own, said(d, LENGTHS + 3)),

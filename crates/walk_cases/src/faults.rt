@@ -1,4 +1,5 @@
 // Faults of the case on the desk, the example: each is a word that is put in place of another.
+use crate::areas::BLANK;
 use crate::areas::CASE;
 use crate::areas::Desk;
 use crate::areas::LENGTHS;
@@ -21,11 +22,14 @@ fn area_of(i: usize) -> usize {
     match i {
         0..=3 => CASE,
         5 => TAILS,
-        _ => LINKS,
+        4 => LINKS,
+        6 => LINKS,
+        _ => BLANK,
     }
 }
 
-// Its place, in one of five ways: a size, a length, the start, a link, a tail, and a link that puts an edge on a second list or on a ring.
+// Its place, in one of five ways: a size, a length, the start, a link, a tail, a link that puts an edge on a second list or on a ring, and
+// the last and the first word of the list.
 fn place_of_fault(i: usize, way: usize) -> usize {
     match i {
         0 => N,
@@ -34,7 +38,9 @@ fn place_of_fault(i: usize, way: usize) -> usize {
         3 => START,
         4 => way % 2,
         5 => way % 4,
-        _ => way % 2 * 4 + 2,
+        6 => way % 2 * 4 + 2,
+        7 => 1,
+        _ => 0,
     }
 }
 
@@ -47,15 +53,17 @@ fn word_of_fault(i: usize, odd: bool, short: u16) -> u16 {
         3 => if odd { 4 } else { 0 },
         4 => if odd { 8 } else { 2 },
         5 => if odd { 4 } else { 0 },
-        _ => if odd { 7 } else { 4 },
+        6 => if odd { 7 } else { 4 },
+        7 => if odd { 4 } else { 1 },
+        _ => 1,
     }
 }
 
-// Puts fault i + 1 where its bit is set in the seed; the bits above the seventh say the way.
+// Puts fault i + 1 where its bit is set in the seed; the bits above the ninth say the way. The last two are 17 and 18.
 pub(crate) fn fault(d: &mut Desk, i: usize) {
     let bits = said(d, SEED);
-    let way = (bits / 128) as usize;
-    if bits >> (i % 7) & 1 == 1 {
+    let way = (bits / 512) as usize;
+    if bits >> (i % 9) & 1 == 1 {
         let k = said(d, LENGTHS + way % 5);
         put_at(
             d,

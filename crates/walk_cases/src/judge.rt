@@ -1,28 +1,50 @@
 // The number with which a walk of the case on the desk is to be refused, and what it is to leave.
+use crate::areas::BLANK;
 use crate::areas::CASE;
 use crate::areas::Desk;
 use crate::areas::ENTRIES;
 use crate::areas::EVENTS;
+use crate::areas::FORM;
 use crate::areas::LENGTHS;
 use crate::areas::LINKS;
+use crate::areas::LISTED;
 use crate::areas::M;
 use crate::areas::MARKS;
 use crate::areas::N;
 use crate::areas::OWN;
 use crate::areas::START;
 use crate::areas::TAILS;
+use crate::areas::USED;
 use crate::areas::WALKER;
+use crate::areas::get_at;
+use crate::areas::get_of;
 use crate::areas::part;
 use crate::areas::put_at;
+use crate::areas::raise;
 use crate::areas::said;
+use crate::areas::say;
+use crate::areas::word;
+use crate::blanks::vertex_at;
 use crate::calls::ARRAY;
 use crate::calls::PARENT;
 use crate::calls::QUEUE;
 use crate::calls::check_image;
 use crate::calls::edges_out_number;
+use crate::second::is_listed;
 use crate::second::push;
 use crate::second::scan;
+use crate::tally::EQUAL;
+use crate::tally::FALLING;
+use crate::tally::LONGER;
+use crate::tally::NULL;
+use crate::tally::ON_IT;
+use crate::tally::PAST;
+use crate::tally::note;
+use crate::turns::LABELLED;
+use crate::turns::LOOPS;
 use crate::turns::STEPS;
+use crate::turns::USES;
+use crate::turns::WRONG;
 use crate::turns::ZEROS;
 use crate::turns::each;
 
@@ -97,8 +119,8 @@ fn words_number(walker: u16, n: u16, m: u16, start: u16, links: &[u16], tails: &
     check_image(n, m, links, tails)
 }
 
-// The number of the case on the desk, or 0.
-pub(crate) fn number(d: &Desk) -> u16 {
+// The number of what is no list, or 0.
+fn image_number(d: &Desk) -> u16 {
     let walker = said(d, WALKER);
     let n = said(d, N);
     let m = said(d, M);
@@ -119,12 +141,91 @@ pub(crate) fn number(d: &Desk) -> u16 {
     )
 }
 
+// Uses up the first word of the list that is left, where it is vertex i + 1.
+pub(crate) fn use_up(d: &mut Desk, i: usize) {
+    let k = said(d, USED);
+    if k == said(d, LISTED) {
+        return;
+    }
+    if get_at(d, BLANK, k as usize) == vertex_at(i) {
+        raise(d, CASE, USED, 1);
+    }
+}
+
+// What the list shows: 17 where the vertices from 1 to n, one after the other, do not use it up, 18 where the start is on it, or 0.
+fn list_number(d: &mut Desk) -> u16 {
+    say(d, USED, 0);
+    each(d, USES, said(d, N) as usize);
+    if said(d, USED) != said(d, LISTED) {
+        return 17;
+    }
+    if is_listed(d, said(d, START)) {
+        return 18;
+    }
+    0
+}
+
+// The number of the case on the desk, or 0.
+pub(crate) fn number(d: &mut Desk) -> u16 {
+    let k = image_number(d);
+    if k != 0 {
+        return k;
+    }
+    list_number(d)
+}
+
+// What is wrong with the word x of a list, behind another, or 0.
+fn wrong_thing(n: u16, last: u16, x: u16) -> usize {
+    if x == 0 {
+        return NULL;
+    }
+    if n < x {
+        return PAST;
+    }
+    if x == last {
+        return EQUAL;
+    }
+    if x < last { FALLING } else { 0 }
+}
+
+// Notes what is wrong with word i of the list.
+pub(crate) fn note_wrong(d: &mut Desk, i: usize) {
+    let last = get_of(d, BLANK, word(i as u64 % 65536));
+    let k = wrong_thing(said(d, N), last, get_at(d, BLANK, i));
+    if k != 0 {
+        note(d, k);
+    }
+}
+
+// Notes what is wrong with the list.
+fn note_list(d: &mut Desk) {
+    let top = said(d, LISTED);
+    each(d, WRONG, top as usize);
+    if is_listed(d, said(d, START)) {
+        note(d, ON_IT);
+    }
+    if said(d, N) < top {
+        note(d, LONGER);
+    }
+}
+
+// Labels the listed vertices, and notes the form of the list and loops on them.
+fn label_list(d: &mut Desk) {
+    if said(d, LISTED) == 0 {
+        return;
+    }
+    each(d, LABELLED, said(d, N) as usize);
+    each(d, LOOPS, said(d, M) as usize);
+    note(d, said(d, FORM) as usize);
+}
+
 // The whole second search.
 fn search(d: &mut Desk, walker: u16) {
     let n = said(d, N);
     let top = n as usize + said(d, M) as usize;
     each(d, ZEROS + MARKS, top);
     each(d, ZEROS + OWN, own_words(walker, n));
+    label_list(d);
     let start = said(d, START);
     put_at(d, ENTRIES, 0, 0);
     push(d, walker, start, 0);
@@ -137,8 +238,11 @@ pub(crate) fn expect(d: &mut Desk, walker: u16, number: u16) {
     each(d, MARKS, length(d, 2));
     each(d, OWN, length(d, 3));
     each(d, EVENTS, length(d, 4));
-    each(d, ZEROS + CASE, 10);
+    each(d, ZEROS + CASE, 26);
     if number == 0 {
         search(d, walker);
+    }
+    if 7 < number {
+        note_list(d);
     }
 }

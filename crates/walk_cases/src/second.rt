@@ -1,12 +1,16 @@
 // The second implementation of the walks: over lists of edges sorted by the vertex that they leave. Depth-first by a stack of vertices
-// with a place in the list of each; breadth-first by looking for the least label that is not yet scanned.
+// with a place in the list of each; breadth-first by looking for the least label that is not yet scanned. The elements already on the
+// blank are labelled beforehand: each vertex is looked for on the list.
+use crate::areas::BLANK;
 use crate::areas::CASE;
 use crate::areas::DEPTH;
 use crate::areas::Desk;
 use crate::areas::ENDS;
 use crate::areas::ENTRIES;
 use crate::areas::EVENTS;
+use crate::areas::FROMS;
 use crate::areas::LABELS;
+use crate::areas::LISTED;
 use crate::areas::MARKS;
 use crate::areas::N;
 use crate::areas::OWN;
@@ -24,9 +28,53 @@ use crate::areas::raise;
 use crate::areas::said;
 use crate::areas::say;
 use crate::areas::word;
+use crate::blanks::vertex_at;
 use crate::calls::ARRAY;
 use crate::calls::PARENT;
 use crate::calls::QUEUE;
+use crate::tally::LOOP;
+use crate::tally::REFERENCE;
+use crate::tally::TWICE;
+use crate::tally::note;
+
+// The mark of a listed vertex.
+const ON_BLANK: u16 = 65535;
+
+// The first of the first `top` places of an area that holds the word w, or `top`.
+fn place_of(d: &Desk, area: usize, top: usize, w: u16) -> usize {
+    let mut i: usize = 0;
+    while i < top {
+        if get_at(d, area, i) == w {
+            return i;
+        }
+        i += 1;
+    }
+    top
+}
+
+// Whether x is on the list.
+pub(crate) fn is_listed(d: &Desk, x: u16) -> bool {
+    let top = said(d, LISTED) as usize;
+    place_of(d, BLANK, top, x) < top
+}
+
+// Labels vertex i + 1 beforehand, where it is on the list.
+pub(crate) fn label_listed(d: &mut Desk, i: usize) {
+    if is_listed(d, vertex_at(i)) {
+        put_at(d, MARKS, i, ON_BLANK);
+    }
+}
+
+// Notes edge i where it is a loop on a listed vertex.
+pub(crate) fn note_loop(d: &mut Desk, i: usize) {
+    let u = get_at(d, FROMS, i);
+    if get_at(d, TOS, i) != u {
+        return;
+    }
+    if get_of(d, MARKS, u) == ON_BLANK {
+        note(d, LOOP);
+    }
+}
 
 fn emit(d: &mut Desk, kind: u16, edge: u16, u: u16) {
     let at = said(d, WORDS) as usize;
@@ -119,12 +167,27 @@ fn edge_name(walker: u16, n: u16, p: u16, e: u16) -> u16 {
     word(n as u64 + k as u64 + 1)
 }
 
+// Notes the edge at place p, which leaves u, as one that leads to the listed vertex x.
+fn note_listed(d: &mut Desk, u: u16, p: u16, x: u16) {
+    note(d, REFERENCE);
+    if p == get_of(d, ENDS, u) {
+        return;
+    }
+    let e = get_of(d, SORTED, p);
+    if get_at(d, TOS, e as usize) == x {
+        note(d, TWICE);
+    }
+}
+
 // Traverses the edge at place p, which leaves u.
 fn edge(d: &mut Desk, walker: u16, u: u16, p: u16) {
     let k = get_at(d, SORTED, p as usize);
     let x = get_at(d, TOS, k as usize);
     let e = edge_name(walker, said(d, N), p, k);
     let mark = get_of(d, MARKS, x);
+    if mark == ON_BLANK {
+        note_listed(d, u, p, x);
+    }
     if QUEUE <= walker {
         return breadth_edge(d, walker, u, x, e, mark);
     }
@@ -146,18 +209,6 @@ fn depth_end(d: &mut Desk, u: u16, k: u16) {
     let v = get_at(d, STACK, below as usize);
     emit(d, 5, e, v);
     raise(d, PLACES, below as usize, 1);
-}
-
-// The first of the first `top` places of an area that holds the word w, or `top`.
-fn place_of(d: &Desk, area: usize, top: usize, w: u16) -> usize {
-    let mut i: usize = 0;
-    while i < top {
-        if get_at(d, area, i) == w {
-            return i;
-        }
-        i += 1;
-    }
-    top
 }
 
 // Ends the scan of u, whose label is k, and begins that of the next label.

@@ -32,9 +32,9 @@ in-front : (es : List Event) (k : ℕ) (area area′ : List ℕ) → k ≡ lengt
 in-front es k area area′ n e = ap (take (3 * k)) e ∙ take-at (words es) (drop (length (words es)) area) (3 * k) (omega (arith, words-length es))
 
 pub line-a : LineAClaim
-line-a g start marks events t marks′ events′ P =
-    let h = depthWalk g start in
-    in-front (lineA g start) (sumOf (λ k. k) t) events events′ (ap (sumOf (λ k. k)) (P .tally-is) ∙ tally-sums h ∙ sym (length-reverse h)) (P .events-are)
+line-a g before start marks events t marks′ events′ P =
+    let h = depthWalk g before start in
+    in-front (lineA g before start) (sumOf (λ k. k) t) events events′ (ap (sumOf (λ k. k)) (P .tally-is) ∙ tally-sums h ∙ sym (length-reverse h)) (P .events-are)
 
 -- ---- line B
 -- The words that a call has written are those of its events.
@@ -62,39 +62,40 @@ tied l (c ∷ cs) (s ∷ ss) K =
     ∙ tied (noted l c (serve (l .config) c)) cs ss (subst (λ (x : Seen). Kept (x .config) cs ss) (K .0) (K .1))
 
 pub tie : TieClaim
-tie g start marks area o e cs ss K =
-    let r : Reply = opening g start marks area in
-    ap (λ (a : Account). account a cs ss) (ap opened e ∙ ap (accountWith (begun r)) (tells r area (demand1 .opening-confined g start marks area .told)))
+tie g before start marks area o e cs ss K =
+    let r : Reply = opening g before start marks area in
+    ap (λ (a : Account). account a cs ss) (ap opened e ∙ ap (accountWith (begun r)) (tells r area (demand1 .opening-confined g before start marks area .told)))
     ∙ tied (begun r) cs ss (subst (λ (x : Seen). Kept (x .config) cs ss) e K)
 
 -- ---- demand 2
 -- A line that has ended has the events of the one depth-first search.
-labelled : (g : Image) (start : ℕ) (marks area : List ℕ) → openNumber g start marks area ≡ 0 → (cs : List Call) → Labels g start marks (accountOf (lineB folded g start marks area cs))
-labelled g start marks area h cs =
-    let l : Line = lineB folded g start marks area cs in
-    let P = profile g start marks area h in
-    let D = depth-first (graphOf g) [] start (profile-ready g (P .sound) start (P .start-vertex)) in
-    let L = demand2 .labelling g start marks area h cs in
+labelled : (g : Image) (before : List ℕ) (start : ℕ) (marks area : List ℕ) → openNumber g before start marks area ≡ 0 → (cs : List Call) → Labels g before start marks (accountOf (lineB folded g before start marks area cs))
+labelled g before start marks area h cs =
+    let l : Line = lineB folded g before start marks area cs in
+    let P = profile g before start marks area h in
+    let D = depth-first (graphOf g) before start (profile-ready g (P .sound) before start (P .start-vertex) (P .listed)) in
+    let L = demand2 .labelling g before start marks area h cs in
     record {
       events = λ f. ap words (sym (reverse-reverse (l .events)) ∙ ap reverse (D .one (reverse (l .events)) .0 (L .events f)));
-      labels = λ f. L .labels f ∙ ap (λ (i : History). marksLeft (g .n + g .m) i marks) (D .one (reverse (l .events)) .0 (L .events f));
+      labels = λ f. L .labels f ∙ ap (λ (i : History). marksLeft (g .n + g .m) before i marks) (D .one (reverse (l .events)) .0 (L .events f));
       no-labels = L .no-labels;
       circle = L .circle;
       history = reverse (l .events);
       so-far = ap words (sym (reverse-reverse (l .events)));
       circular = L .circular;
       marks-now = L .marks-now;
+      blanks = L .blanks;
     }
 
 pub labels-as-defined : LabelsClaim
-labels-as-defined g start marks area h o e cs ss K = rw (tie g start marks area o e cs ss K) (labelled g start marks area h cs)
+labels-as-defined g before start marks area h o e cs ss K = rw (tie g before start marks area o e cs ss K) (labelled g before start marks area h cs)
 
 -- The calls of a script that is opened.
-abbrev played : Image → ℕ → (marks area script : List ℕ) → List Call
-played g start marks area script = cond (eqb (openNumber g start marks area) 0) (scripted (begun (opening g start marks area)) area script) []
+abbrev played : Image → (before : List ℕ) → ℕ → (marks area script : List ℕ) → List Call
+played g before start marks area script = cond (eqb (openNumber g before start marks area) 0) (scripted (begun (opening g before start marks area)) area script) []
 
 pub replay-labels : ReplayLabelsClaim
-replay-labels g start marks area h script = labelled g start marks area h (played g start marks area script)
+replay-labels g before start marks area h script = labelled g before start marks area h (played g before start marks area script)
 
 -- ---- the two lines
 -- The words of the first events are the first words.
@@ -102,13 +103,14 @@ words-first : (es : List Event) {fs : List Event} → IsPrefix es fs → IsPrefi
 words-first es (gs, e) = (words gs, sym (words-append es gs) ∙ ap words e)
 
 -- What is proved of the events of a line, of its event words.
-in-words : (g : Image) (start : ℕ) (vs : List ℕ) (l : Line) → Agrees g start vs l → Agree g start vs (words (lineA g start)) (accountOf l)
-in-words g start vs l A = record { first = words-first (l .events) (A .first); ends = A .ends; all = λ calm end. ap words (A .all calm end); bound = A .bound; below = A .below; restored = A .restored; faultless = A .faultless }
+in-words : (g : Image) (before : List ℕ) (start : ℕ) (vs : List ℕ) (l : Line) → Agrees g before start vs l → Agree g before start vs (words (lineA g before start)) (accountOf l)
+in-words g before start vs l A = record { first = words-first (l .events) (A .first); ends = A .ends; all = λ calm end. ap words (A .all calm end); bound = A .bound; below = A .below; restored = A .restored; faultless = A .faultless }
 
 pub two-lines : TwoLinesClaim
-two-lines g start marksA eventsA t marksA′ eventsA′ taken P marks area h o e cs ss K vs E =
-    rw (line-a g start marksA eventsA t marksA′ eventsA′ (rw taken at P), tie g start marks area o e cs ss K)
-    (in-words g start vs (lineB folded g start marks area cs) (agreement g start marks area h vs E cs))
+two-lines g before start marksA eventsA t marksA′ eventsA′ taken P marks area h o e cs ss K vs E =
+    rw (line-a g before start marksA eventsA t marksA′ eventsA′ (rw taken at P), tie g before start marks area o e cs ss K)
+    (in-words g before start vs (lineB folded g before start marks area cs) (agreement g before start marks area h vs E cs))
 
 pub replay-agrees : ReplayClaim
-replay-agrees g start marks area h script vs E = in-words g start vs (replayed g start marks area script) (agreement g start marks area h vs E (played g start marks area script))
+replay-agrees g before start marks area h script vs E =
+    in-words g before start vs (replayed g before start marks area script) (agreement g before start marks area h vs E (played g before start marks area script))

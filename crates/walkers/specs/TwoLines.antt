@@ -8,11 +8,12 @@ use mathlib.Core.List.{List, [], _∷_, _++_, reverse, IsPrefix}
 use Prim.Native.Nat.{ℕ, _+_, _*_, _≤_, _<_}
 use lib.ListN.{length, take}
 use Rattle.lists.specs.Counts.{sumOf}
-use Rattle.lists.specs.Words.{cleared}
+use Rattle.lists.specs.Members.{Mem}
+use Rattle.lists.specs.Words.{at}
 use Rattle.graphs.specs.Graph.{Reached, met}
 use Rattle.graphs.specs.Events.{History, words}
 use Rattle.graphs.specs.Circles.{Circular, circularOf}
-use Rattle.graphs.specs.Results.{marksLeft, marksNow}
+use Rattle.graphs.specs.Results.{marksFirst, marksLeft, marksNow}
 use Rattle.graphs.specs.Image.{Image, graphOf}
 use Rattle.walks.specs.Promises.{walkNumber, depthWalk}
 use Rattle.folding.specs.Machine.{Config, finished, rolledBack}
@@ -30,7 +31,8 @@ toldBy t events = take (3 * sumOf (λ k. k) t) events
 
 -- The promise of the recursive walker gives line A: its event words are those of the definition over which demand 3 is proved.
 abbrev pub LineAClaim : Type 0
-LineAClaim = (g : Image) (start : ℕ) (marks events t marks′ events′ : List ℕ) → Promised 0 (g .n + g .m) (depthWalk g start) marks events t marks′ events′ → toldBy t events′ ≡ words (lineA g start)
+LineAClaim = (g : Image) (before : List ℕ) (start : ℕ) (marks events t marks′ events′ : List ℕ)
+    → Promised 0 (g .n + g .m) before (depthWalk g before start) marks events t marks′ events′ → toldBy t events′ ≡ words (lineA g before start)
 
 -- ---- line B
 -- A list of calls and what was seen of each: every promise is kept, on what the call before left.
@@ -71,35 +73,38 @@ accountOf l = record { config = l .config; told = words (l .events); steps = l .
 
 -- Folding the promises over any list of calls, refused ones included, from any opening, is line B.
 abbrev pub TieClaim : Type 0
-TieClaim = (g : Image) (start : ℕ) (marks area : List ℕ) (o : Seen) → o ≡ seenOf (opening g start marks area) → (cs : List Call) (ss : List Seen) → Kept (o .config) cs ss
-    → account (opened o) cs ss ≡ accountOf (lineB folded g start marks area cs)
+TieClaim = (g : Image) (before : List ℕ) (start : ℕ) (marks area : List ℕ) (o : Seen) → o ≡ seenOf (opening g before start marks area) → (cs : List Call) (ss : List Seen) → Kept (o .config) cs ss
+    → account (opened o) cs ss ≡ accountOf (lineB folded g before start marks area cs)
 
 -- ---- demand 2 of line B
 -- Ended, the event words and the marks are those of the depth-first search (`WalkClaim` says whose), and circular is 1 exactly where some
--- element reached has a path of one reference or more back to itself; rolled back, all marks are 0. At any time, by the events whose words
--- were written: circular is 1 where a reference was met that leads to an element labelled and not yet scanned, else 0; until B is rolled
--- back, the marks are the label numbers, with 32,768 more for such elements.
-pub record Labels (g : Image) (start : ℕ) (marks : List ℕ) (b : Account) : Type 0 where
-  pub events : b .config .phase ≡ finished → b .told ≡ words (reverse (depthWalk g start))
-  pub labels : b .config .phase ≡ finished → b .config .marks ≡ marksLeft (g .n + g .m) (depthWalk g start) marks
-  pub no-labels : b .config .phase ≡ rolledBack → b .config .marks ≡ cleared (g .n + g .m) marks
-  pub circle : b .config .phase ≡ finished → (b .config .circular ≡ 1) ↔ Circular (graphOf g) [] start
+-- element reached has a path of one reference or more back to itself, off the elements on the blank; rolled back, the marks are 65,535 for
+-- these and 0 elsewhere. At any time, by the events whose words were written: circular is 1 where a reference was met that leads to an
+-- element labelled and not yet scanned, else 0; until B is rolled back, the marks are 65,535 for the elements on the blank and the label
+-- numbers for the others, with 32,768 more for those not yet scanned; the marks of the elements on the blank, and no others, are 65,535.
+pub record Labels (g : Image) (before : List ℕ) (start : ℕ) (marks : List ℕ) (b : Account) : Type 0 where
+  pub events : b .config .phase ≡ finished → b .told ≡ words (reverse (depthWalk g before start))
+  pub labels : b .config .phase ≡ finished → b .config .marks ≡ marksLeft (g .n + g .m) before (depthWalk g before start) marks
+  pub no-labels : b .config .phase ≡ rolledBack → b .config .marks ≡ marksFirst (g .n + g .m) before marks
+  pub circle : b .config .phase ≡ finished → (b .config .circular ≡ 1) ↔ Circular (graphOf g) before start
   pub history : History
   pub so-far : b .told ≡ words (reverse history)
   pub circular : b .config .circular ≡ circularOf (graphOf g) history
-  pub marks-now : b .config .phase ≢ rolledBack → b .config .marks ≡ marksNow (g .n + g .m) history marks
+  pub marks-now : b .config .phase ≢ rolledBack → b .config .marks ≡ marksNow (g .n + g .m) before history marks
+  pub blanks : (x : ℕ) → 0 < x → x ≤ g .n → (at 0 (b .config .marks) x ≡ 65535) ↔ Mem x before
 
 abbrev pub LabelsClaim : Type 0
-LabelsClaim = (g : Image) (start : ℕ) (marks area : List ℕ) → openNumber g start marks area ≡ 0 → (o : Seen) → o ≡ seenOf (opening g start marks area)
-    → (cs : List Call) (ss : List Seen) → Kept (o .config) cs ss → Labels g start marks (account (opened o) cs ss)
+LabelsClaim = (g : Image) (before : List ℕ) (start : ℕ) (marks area : List ℕ) → openNumber g before start marks area ≡ 0 → (o : Seen) → o ≡ seenOf (opening g before start marks area)
+    → (cs : List Call) (ss : List Seen) → Kept (o .config) cs ss → Labels g before start marks (account (opened o) cs ss)
 
 -- Of `replay`, whatever the words of the script.
 abbrev pub ReplayLabelsClaim : Type 0
-ReplayLabelsClaim = (g : Image) (start : ℕ) (marks area : List ℕ) → openNumber g start marks area ≡ 0 → (script : List ℕ) → Labels g start marks (accountOf (replayed g start marks area script))
+ReplayLabelsClaim = (g : Image) (before : List ℕ) (start : ℕ) (marks area : List ℕ) → openNumber g before start marks area ≡ 0 → (script : List ℕ)
+    → Labels g before start marks (accountOf (replayed g before start marks area script))
 
 -- ---- the two lines
 -- Line B's account beside line A's event words; vs are the elements reached, in any order.
-pub record Agree (g : Image) (start : ℕ) (vs lineAWords : List ℕ) (b : Account) : Type 0 where
+pub record Agree (g : Image) (before : List ℕ) (start : ℕ) (vs lineAWords : List ℕ) (b : Account) : Type 0 where
   -- B's event words are the first of A's.
   pub first : IsPrefix (b .told) lineAWords
   -- While no roll-back order was taken, B has ended exactly when its steps are twice the references met plus the elements reached.
@@ -114,14 +119,16 @@ pub record Agree (g : Image) (start : ℕ) (vs lineAWords : List ℕ) (b : Accou
   -- No call was refused with 8, and no run said stuck.
   pub faultless : Faultless (b .answers)
 
--- Demand 3: one call of `dfs_recursive` that is taken, on areas of its own; one opening that is taken; any list of calls.
+-- Demand 3: one call of `dfs_recursive` that is taken, on areas of its own; one opening that is taken, with the same elements on the blank;
+-- any list of calls.
 abbrev pub TwoLinesClaim : Type 0
-TwoLinesClaim = (g : Image) (start : ℕ) (marksA eventsA t marksA′ eventsA′ : List ℕ) → walkNumber g start marksA eventsA [] ≡ 0 → Promised (walkNumber g start marksA eventsA []) (g .n + g .m) (depthWalk g start) marksA eventsA t marksA′ eventsA′
-    → (marks area : List ℕ) → openNumber g start marks area ≡ 0 → (o : Seen) → o ≡ seenOf (opening g start marks area)
+TwoLinesClaim = (g : Image) (before : List ℕ) (start : ℕ) (marksA eventsA t marksA′ eventsA′ : List ℕ) → walkNumber g before start marksA eventsA [] ≡ 0
+    → Promised (walkNumber g before start marksA eventsA []) (g .n + g .m) before (depthWalk g before start) marksA eventsA t marksA′ eventsA′
+    → (marks area : List ℕ) → openNumber g before start marks area ≡ 0 → (o : Seen) → o ≡ seenOf (opening g before start marks area)
     → (cs : List Call) (ss : List Seen) → Kept (o .config) cs ss
-    → (vs : List ℕ) → Reached (graphOf g) [] start vs → Agree g start vs (toldBy t eventsA′) (account (opened o) cs ss)
+    → (vs : List ℕ) → Reached (graphOf g) before start vs → Agree g before start vs (toldBy t eventsA′) (account (opened o) cs ss)
 
 -- Demand 3 of `replay`, which performs the calls of a script one after the other: whatever the words of the script.
 abbrev pub ReplayClaim : Type 0
-ReplayClaim = (g : Image) (start : ℕ) (marks area : List ℕ) → openNumber g start marks area ≡ 0 → (script : List ℕ)
-    → (vs : List ℕ) → Reached (graphOf g) [] start vs → Agree g start vs (words (lineA g start)) (accountOf (replayed g start marks area script))
+ReplayClaim = (g : Image) (before : List ℕ) (start : ℕ) (marks area : List ℕ) → openNumber g before start marks area ≡ 0 → (script : List ℕ)
+    → (vs : List ℕ) → Reached (graphOf g) before start vs → Agree g before start vs (words (lineA g before start)) (accountOf (replayed g before start marks area script))

@@ -2,6 +2,7 @@
 pub mod Storing
 pub mod Reading
 pub mod Events
+pub mod Blanks
 pub mod Begins
 pub mod Progress
 pub mod Writing

@@ -1,17 +1,27 @@
--- The number of a walk, once the areas that it is lent are long enough and the start is a vertex: that of the checker.
+-- The number of a walk, once the areas that it is lent are long enough and the start is a vertex: that of the checker, else of the list.
 -- The conditions left are the same, in the same order.
 use mathlib.Core.Path.{_≡_, refl, sym, ap, _∙_}
 use mathlib.Core.Bool.{Bool, true, false, not, _&&_, _||_}
-use mathlib.Core.List.{List, [], _∷_}
+use mathlib.Core.Logic.{_≢_}
+use mathlib.Core.List.{List, [], _∷_, _++_}
 use Prim.Native.Nat.{ℕ, _+_, _*_, _≤_}
+use native.Mathlib.Omega.{arith}
 use lib.Dec.{ltb, leb}
 use lib.ListN.{length}
 use borrow.Author.Tests.{le-ltb, le-leb, lt-leb, ltb-true, ltb-false, not-true, not-false}
 use Rattle.graphs.specs.Nodes.{isVertex}
 use Rattle.graphs.specs.Image.{Image}
 use Rattle.graphs.specs.ArrayForm.{ArrayForm}
-use Rattle.graphs.specs.Refusals.{Lent, lent, short, imageNumber, searchNumber, arrayNumber}
+use Rattle.graphs.specs.Refusals.{Refusal, refuse, firstOf, Lent, lent, short, vertexOut, firstOut, tailOut, sizeRefusals, imageAreas, imageRefusals, blankRefusals, imageNumber, searchNumber, arrayAreas, arrayNumber, arraySearchNumber}
+use Rattle.graphs.proofs.Refusals.{first-front, first-rest}
 use Rattle.walks.specs.Promises.{arrayWalkNumber}
+
+-- The conditions of the checker alone, and of a query.
+abbrev imageChecks : Image → List Refusal
+imageChecks g = sizeRefusals (g .n) (g .m) (imageAreas g ++ []) ++ imageRefusals g
+
+abbrev arrayChecks : ArrayForm → ℕ → List Refusal
+arrayChecks a start = sizeRefusals (a .n) (a .m) (arrayAreas a ++ []) ++ refuse 4 (vertexOut (a .n) start) ∷ refuse 5 (firstOut a) ∷ refuse 6 (tailOut (a .n) (a .m) (a .tails)) ∷ []
 
 -- What a caller says of the areas of its own.
 module _ (own : List Lent) {long : Bool} (e : long ≡ not (short own)) where
@@ -37,10 +47,30 @@ own-test k area = sym (and-last (leb k (length area))) ∙ more-lent k area [] t
     and-last true = refl
     and-last false = refl
 
-pub search-same : (g : Image) (start : ℕ) (areas : List Lent) → short areas ≡ false → isVertex (g .n) start ≡ true → imageNumber g [] ≡ searchNumber g start areas
-unfolding imageNumber searchNumber
-search-same g start areas c d = rw (c, d)
+-- The checker's number, and past it that of the list.
+module _ (g : Image) (before : List ℕ) (start : ℕ) (areas : List Lent) (c : short areas ≡ false) (d : isVertex (g .n) start ≡ true) where
+  checked : searchNumber g before start areas ≡ firstOf (imageChecks g ++ blankRefusals (g .n) before start)
+  unfolding searchNumber
+  checked = rw (c, d)
 
-pub array-walk-same : (a : ArrayForm) (start : ℕ) (marks increments events : List ℕ) → a .n + a .m ≤ length marks → 6 * (a .n + a .m) ≤ length events → a .n ≤ length increments → arrayNumber a start [] ≡ arrayWalkNumber a start marks increments events
-unfolding arrayNumber
-array-walk-same a start marks increments events p q r = rw (le-ltb (length marks) (a .n + a .m) p, le-ltb (length events) (6 * (a .n + a .m)) q, le-ltb (length increments) (a .n) r)
+  pub search-first : {k : ℕ} → k ≡ imageNumber g [] → k ≢ 0 → k ≡ searchNumber g before start areas
+  unfolding imageNumber
+  search-first e ne = e ∙ sym (checked ∙ first-front (imageChecks g) (blankRefusals (g .n) before start) (λ z. ne (e ∙ z)))
+
+  pub search-list : {k : ℕ} → k ≡ imageNumber g [] → k ≡ 0 → firstOf (blankRefusals (g .n) before start) ≡ searchNumber g before start areas
+  unfolding imageNumber
+  search-list e z = sym (checked ∙ first-rest (imageChecks g) (blankRefusals (g .n) before start) (omega arith) (sym e ∙ z))
+
+-- The number of a query for the start, and past it that of the list.
+module _ (a : ArrayForm) (before : List ℕ) (start : ℕ) (marks increments events : List ℕ) (p : a .n + a .m ≤ length marks) (q : 6 * (a .n + a .m) ≤ length events) (r : a .n ≤ length increments) where
+  queried : arrayWalkNumber a before start marks increments events ≡ firstOf (arrayChecks a start ++ blankRefusals (a .n) before start)
+  unfolding arraySearchNumber
+  queried = rw (le-ltb (length marks) (a .n + a .m) p, le-ltb (length events) (6 * (a .n + a .m)) q, le-ltb (length increments) (a .n) r)
+
+  pub array-first : {k : ℕ} → k ≡ arrayNumber a start [] → k ≢ 0 → k ≡ arrayWalkNumber a before start marks increments events
+  unfolding arrayNumber
+  array-first e ne = e ∙ sym (queried ∙ first-front (arrayChecks a start) (blankRefusals (a .n) before start) (λ z. ne (e ∙ z)))
+
+  pub array-list : {k : ℕ} → k ≡ arrayNumber a start [] → k ≡ 0 → firstOf (blankRefusals (a .n) before start) ≡ arrayWalkNumber a before start marks increments events
+  unfolding arrayNumber
+  array-list e z = sym (queried ∙ first-rest (arrayChecks a start) (blankRefusals (a .n) before start) (omega arith) (sym e ∙ z))

@@ -8,13 +8,14 @@ use native.Mathlib.Omega.{arith}
 use lib.Dec.{eqb, ltb, leb}
 use lib.ListN.{length, set}
 use borrow.Author.Tests.{leb-true, leb-false, lt-ltb, le-ltb, le-leb, lt-leb}
-use Rattle.lists.specs.Members.{memb, consIf}
+use Rattle.lists.specs.Members.{Mem, memb, consIf}
 use Rattle.lists.specs.Counts.{rank}
-use Rattle.lists.specs.Words.{at, put, pasted, cleared, filled}
+use Rattle.lists.specs.Words.{at, put, pasted, filled}
 use Rattle.lists.proofs.Tests.{and-true, and-none}
-use Rattle.lists.proofs.Words.{length-cleared, length-overlay, cleared-filled}
+use Rattle.lists.proofs.Words.{length-filled, length-overlay}
 use Rattle.graphs.specs.Graph.{Graph}
-use Rattle.graphs.specs.Events.{Kind, event, label, advance-tree, advance-nontree, code, words, same, History, _▸_, labelled, count, tally}
+use Rattle.graphs.specs.Events.{Kind, event, label, advance-tree, advance-nontree, code, words, same, History, _▸_, known, labelled, count, tally}
+use Rattle.graphs.specs.Results.{unlessBlank, marksFirst}
 use Rattle.graphs.specs.Search.{depthFirst}
 use Rattle.graphs.specs.Claims.{Ready}
 use Rattle.graphs.proofs.Depth.{depth-first}
@@ -22,7 +23,7 @@ use Rattle.graphs.proofs.Results.{marks-label, marks-test, marks-length, named-
 use Rattle.walks.specs.declared.depth.Progress.{Progress}
 use Rattle.walks.specs.Writing.{noEvents, Held, Roomy}
 use Rattle.walks.specs.Progress.{noProgress, hasRoom, progressAfter, eventsAfter, canLabel, labelProgress, labelMarks, labelEvents, isWhole, depthTally, Written}
-use Rattle.walks.proofs.Storing.{three-stored, all-cleared}
+use Rattle.walks.proofs.Storing.{three-stored, all-first}
 use Rattle.walks.proofs.Events.{words-many, events-next}
 
 -- ---- what the functions store
@@ -80,17 +81,17 @@ module _ (u : ℕ) (p : Progress) (marks events : List ℕ) where
       )
 
 -- ---- what is written
-module _ {k : ℕ} {h : History} {marks₀ events₀ marks events : List ℕ} {p : Progress} (W : Written k h marks₀ events₀ marks events p) where
-  -- A mark of 0 is an unlabelled node.
-  pub written-test : (x : ℕ) → 0 < x → x ≤ k → eqb (at 0 marks x) 0 ≡ not (memb x (labelled h))
-  written-test x a b = ap (λ (l : List ℕ). eqb (at 0 l x) 0) (W .marked) ∙ marks-test k h marks₀ x a b
+module _ {k : ℕ} {before : List ℕ} {h : History} {marks₀ events₀ marks events : List ℕ} {p : Progress} (W : Written k before h marks₀ events₀ marks events p) where
+  -- A mark of 0 is a node neither labelled nor on the blank.
+  pub written-test : (x : ℕ) → 0 < x → x ≤ k → eqb (at 0 marks x) 0 ≡ not (memb x (known before h))
+  written-test x a b = ap (λ (l : List ℕ). eqb (at 0 l x) 0) (W .marked) ∙ marks-test k before h marks₀ x a b
 
   -- With room for one event more.
   module _ {all : History} (R : Roomy k all marks₀ events₀) where
     -- The areas keep their lengths.
     pub written-lengths : length h ≤ length all → (length marks ≡ length marks₀) × (length events ≡ length events₀)
     written-lengths l = (
-      ap length (W .marked) ∙ marks-length k h marks₀ (R .long-marks),
+      ap length (W .marked) ∙ marks-length k before h marks₀ (R .long-marks),
       ap length (W .written) ∙ length-overlay (words (reverse h)) events₀ (omega (arith, words-many h, R .room)),
     )
 
@@ -111,41 +112,41 @@ module _ {k : ℕ} {h : History} {marks₀ events₀ marks events : List ℕ} {p
     words-made = ap (λ (c : ℕ). 3 * c) (W .made)
 
     -- An event that labels nothing.
-    pub written-emit : suc (length h) ≤ length all → (j : Kind) (r u : ℕ) → same label j ≡ false → Written k (h ▸ event j r u) marks₀ events₀ marks (pasted (3 * p .events) (code j ∷ r ∷ u ∷ []) events) (record { events = suc (p .events); labels = p .labels })
+    pub written-emit : suc (length h) ≤ length all → (j : Kind) (r u : ℕ) → same label j ≡ false → Written k before (h ▸ event j r u) marks₀ events₀ marks (pasted (3 * p .events) (code j ∷ r ∷ u ∷ []) events) (record { events = suc (p .events); labels = p .labels })
     written-emit l j r u q = record {
-      marked = W .marked ∙ ap (λ (b : Bool). filled (λ x. rank x (consIf b u (labelled h))) k marks₀) (sym q);
+      marked = W .marked ∙ ap (λ (b : Bool). filled (unlessBlank before (λ x. rank x (consIf b u (labelled h)))) k marks₀) (sym q);
       written = (λ i. pasted (words-made i) (code j ∷ r ∷ u ∷ []) (W .written i)) ∙ events-next h events₀ j r u (omega (arith, R .room));
       made = ap suc (W .made);
       labels = W .labels ∙ ap (λ (b : Bool). length (consIf b u (labelled h))) (sym q);
     }
 
     -- A label.
-    pub written-label : suc (length h) ≤ length all → (u : ℕ) → 0 < u → u ≤ k → Written k (h ▸ event label 0 u) marks₀ events₀ (put 0 marks u (suc (p .labels))) (pasted (3 * p .events) (1 ∷ 0 ∷ u ∷ []) events) (record { events = suc (p .events); labels = suc (p .labels) })
-    written-label l u a b = record {
-      marked = (λ i. put 0 (W .marked i) u (suc (W .labels i))) ∙ marks-label k h marks₀ u a b;
+    pub written-label : suc (length h) ≤ length all → (u : ℕ) → (Mem u before → ⊥) → 0 < u → u ≤ k → Written k before (h ▸ event label 0 u) marks₀ events₀ (put 0 marks u (suc (p .labels))) (pasted (3 * p .events) (1 ∷ 0 ∷ u ∷ []) events) (record { events = suc (p .events); labels = suc (p .labels) })
+    written-label l u off a b = record {
+      marked = (λ i. put 0 (W .marked i) u (suc (W .labels i))) ∙ marks-label k before h marks₀ u off a b;
       written = (λ i. pasted (words-made i) (1 ∷ 0 ∷ u ∷ []) (W .written i)) ∙ events-next h events₀ label 0 u (omega (arith, R .room));
       made = ap suc (W .made);
       labels = ap suc (W .labels);
     }
 
--- Nothing emitted, in marks cleared.
-pub written-none : (k : ℕ) (marks₀ events : List ℕ) → Written k [] marks₀ events (cleared k marks₀) events noProgress
-written-none k marks₀ events = record { marked = cleared-filled k marks₀; written = refl; made = refl; labels = refl }
+-- Nothing emitted, in the marks first.
+pub written-none : (k : ℕ) (before marks₀ events : List ℕ) → Written k before [] marks₀ events (marksFirst k before marks₀) events noProgress
+written-none k before marks₀ events = record { marked = refl; written = refl; made = refl; labels = refl }
 
 -- ---- what the functions that write ensure
--- An event written and counted; u labelled besides; all marks cleared and the start labelled.
+-- An event written and counted; u labelled besides; all marks first and the start labelled.
 abbrev pub Emits : ℕ → ℕ → ℕ → List ℕ → Progress → List ℕ → Progress → Type 0
 Emits k r u events p events′ p′ = (p′ ≡ progressAfter p (length events)) × (events′ ≡ eventsAfter k r u p events)
 
 abbrev pub Puts : ℕ → (marks events : List ℕ) → Progress → (marks′ events′ : List ℕ) → Progress → Type 0
 Puts u marks events p marks′ events′ p′ = (p′ ≡ labelProgress u p (length marks) (length events)) × ((marks′ ≡ labelMarks u p marks (length events)) × (events′ ≡ labelEvents u p (length marks) events))
 
-abbrev pub Starts : ℕ → ℕ → (marks events marks′ events′ : List ℕ) → Progress → Type 0
-Starts nodes start marks events marks′ events′ p′ = (p′ ≡ labelProgress start noProgress (length marks) (length events)) × ((marks′ ≡ labelMarks start noProgress (cleared (min nodes (length marks)) marks) (length events)) × (events′ ≡ labelEvents start noProgress (length marks) events))
+abbrev pub Starts : ℕ → List ℕ → ℕ → (marks events marks′ events′ : List ℕ) → Progress → Type 0
+Starts nodes before start marks events marks′ events′ p′ = (p′ ≡ labelProgress start noProgress (length marks) (length events)) × ((marks′ ≡ labelMarks start noProgress (marksFirst (min nodes (length marks)) before marks) (length events)) × (events′ ≡ labelEvents start noProgress (length marks) events))
 
 -- What is written after such a call, where there is room.
-module _ {k : ℕ} {h all : History} {marks₀ events₀ marks events events′ : List ℕ} {p p′ : Progress} (W : Written k h marks₀ events₀ marks events p) (R : Roomy k all marks₀ events₀) (l : suc (length h) ≤ length all) where
-  pub emitted : (j : Kind) (r u : ℕ) → same label j ≡ false → Emits (code j) r u events p events′ p′ → Written k (h ▸ event j r u) marks₀ events₀ marks events′ p′
+module _ {k : ℕ} {before : List ℕ} {h all : History} {marks₀ events₀ marks events events′ : List ℕ} {p p′ : Progress} (W : Written k before h marks₀ events₀ marks events p) (R : Roomy k all marks₀ events₀) (l : suc (length h) ≤ length all) where
+  pub emitted : (j : Kind) (r u : ℕ) → same label j ≡ false → Emits (code j) r u events p events′ p′ → Written k before (h ▸ event j r u) marks₀ events₀ marks events′ p′
   emitted j r u q e =
       let E = written-emit W R l j r u q in
       let c = can-emit W R l in
@@ -157,9 +158,9 @@ module _ {k : ℕ} {h all : History} {marks₀ events₀ marks events events′ 
         labels = ap (λ (o : Progress). o .labels) s ∙ E .labels;
       }
 
-  pub labelling : {marks′ : List ℕ} (u : ℕ) → 0 < u → u ≤ k → Puts u marks events p marks′ events′ p′ → Written k (h ▸ event label 0 u) marks₀ events₀ marks′ events′ p′
-  labelling u a b e =
-      let E = written-label W R l u a b in
+  pub labelling : {marks′ : List ℕ} (u : ℕ) → (Mem u before → ⊥) → 0 < u → u ≤ k → Puts u marks events p marks′ events′ p′ → Written k before (h ▸ event label 0 u) marks₀ events₀ marks′ events′ p′
+  labelling u off a b e =
+      let E = written-label W R l u off a b in
       let c = can-label W R l u a b in
       let s = e .0 ∙ ap (λ (x : Bool). cond x (record { events = suc (p .events); labels = suc (p .labels) }) p) c in
       record {
@@ -170,20 +171,20 @@ module _ {k : ℕ} {h all : History} {marks₀ events₀ marks events events′ 
       }
 
 -- The start labelled.
-pub beginning : {k : ℕ} {all : History} {marks₀ events₀ marks events : List ℕ} {p : Progress} → Roomy k all marks₀ events₀ → 1 ≤ length all → (start : ℕ) → 0 < start → start ≤ k → Starts k start marks₀ events₀ marks events p → Written k ([] ▸ event label 0 start) marks₀ events₀ marks events p
-beginning {k} {all} {marks₀} {events₀} R l start a b w =
-    let N = written-none k marks₀ events₀ in
-    let c : cleared (min k (length marks₀)) marks₀ ≡ cleared k marks₀ = all-cleared k marks₀ (R .long-marks) in
-    let n : length (cleared k marks₀) ≡ length marks₀ = length-cleared k marks₀ (R .long-marks) in
-    labelling N R l start a b (
+pub beginning : {k : ℕ} {before : List ℕ} {all : History} {marks₀ events₀ marks events : List ℕ} {p : Progress} → Roomy k all marks₀ events₀ → 1 ≤ length all → (start : ℕ) → (Mem start before → ⊥) → 0 < start → start ≤ k → Starts k before start marks₀ events₀ marks events p → Written k before ([] ▸ event label 0 start) marks₀ events₀ marks events p
+beginning {k} {before} {all} {marks₀} {events₀} R l start off a b w =
+    let N = written-none k before marks₀ events₀ in
+    let c : marksFirst (min k (length marks₀)) before marks₀ ≡ marksFirst k before marks₀ = all-first k before marks₀ (R .long-marks) in
+    let n : length (marksFirst k before marks₀) ≡ length marks₀ = length-filled (unlessBlank before (λ x. 0)) k marks₀ (R .long-marks) in
+    labelling N R l start off a b (
       w .0 ∙ ap (λ (i : ℕ). labelProgress start noProgress i (length events₀)) (sym n),
       (w .1 .0 ∙ ap (λ (m : List ℕ). labelMarks start noProgress m (length events₀)) c, w .1 .1 ∙ ap (λ (i : ℕ). labelEvents start noProgress i events₀) (sym n)),
     )
 
 -- ---- the tally of a whole walk
-module _ {G : Graph} {start : ℕ} (R : Ready G [] start) {k : ℕ} {marks₀ events₀ marks events : List ℕ} {p : Progress} (W : Written k (depthFirst G [] start) marks₀ events₀ marks events p) (few : length (depthFirst G [] start) ≤ 10000) where
+module _ {G : Graph} {before : List ℕ} {start : ℕ} (R : Ready G before start) {k : ℕ} {marks₀ events₀ marks events : List ℕ} {p : Progress} (W : Written k before (depthFirst G before start) marks₀ events₀ marks events p) (few : length (depthFirst G before start) ≤ 10000) where
   abbrev whole : History
-  whole = depthFirst G [] start
+  whole = depthFirst G before start
 
   -- What the two numbers say of the seven.
   record Counted : Type 0 where
@@ -197,20 +198,20 @@ module _ {G : Graph} {start : ℕ} (R : Ready G [] start) {k : ℕ} {marks₀ ev
 
   counted : Counted
   counted =
-      let c = depth-first G [] start R in
+      let c = depth-first G before start R in
       let l : p .labels ≡ count label whole = W .labels ∙ named-length label whole in
       omega (arith, c .tree-labels, c .label-scans, c .no-traverses, c .tree-pairs, c .nontree-pairs, tally-sums whole, W .made)
 
   pub whole-tally : depthTally p ≡ tally whole
   whole-tally =
-      let c = depth-first G [] start R in
+      let c = depth-first G before start R in
       let n = counted in
       let is : isWhole p ≡ true = and-true (le-leb (p .events) 10000 (n .all)) (and-true (le-leb 1 (p .labels) (n .low)) (and-true (le-leb (p .labels) (p .events) (n .fits)) (le-leb (2 * p .labels) (p .events / 2 + 1) (n .pairs)))) in
       ap (λ (b : Bool). cond b (p .labels ∷ (p .labels - 1) ∷ (p .events / 2 + 1 - 2 * p .labels) ∷ (p .events / 2 + 1 - 2 * p .labels) ∷ (p .labels - 1) ∷ p .labels ∷ 0 ∷ []) noEvents) is
       ∙ (λ i. n .labels i ∷ n .trees i ∷ n .nontrees i ∷ (n .nontrees ∙ c .nontree-pairs) i ∷ (n .trees ∙ c .tree-pairs) i ∷ (n .labels ∙ sym (c .label-scans)) i ∷ sym (c .no-traverses) i ∷ [])
 
   -- So the walk is held as one whose events were tallied one by one.
-  pub whole-held : {t : List ℕ} → t ≡ depthTally p → Held k whole marks₀ events₀ marks events t
+  pub whole-held : {t : List ℕ} → t ≡ depthTally p → Held k before whole marks₀ events₀ marks events t
   whole-held e = record { marked = W .marked; written = W .written; counts = e ∙ whole-tally }
 
 -- ---- what the tally's tests say

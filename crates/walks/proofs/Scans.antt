@@ -3,7 +3,7 @@
 use mathlib.Core.Path.{_≡_, refl, sym, ap, _∙_, subst}
 use mathlib.Core.Logic.{_≢_}
 use mathlib.Core.Bool.{false, not}
-use mathlib.Core.List.{List, [], _∷_, _++_, append-nil, append-assoc, reverseAux}
+use mathlib.Core.List.{List, [], _∷_, _++_, append-assoc, reverseAux}
 use Prim.Native.Nat.{ℕ, suc, _+_, _-_, _≤_, _<_}
 use native.Mathlib.Omega.{arith}
 use lib.Dec.{eqb}
@@ -11,16 +11,17 @@ use lib.ListN.{length, getD, length-reverseAux}
 use borrow.Author.Tests.{eq-eqb, ne-eqb, not-true, not-false}
 use Rattle.lists.specs.Members.{Mem, here, NoDup, memb}
 use Rattle.lists.specs.Words.{at}
-use Rattle.lists.proofs.Members.{split, nodup-left, mem-left, mem-right, mem-done}
+use Rattle.lists.proofs.Members.{split, nodup-left, mem-left, mem-right, mem-done, memb-false}
 use Rattle.lists.proofs.Words.{read-at}
 use Rattle.graphs.specs.Nodes.{Vertex, Edge}
 use Rattle.graphs.specs.Graph.{Graph, Closed}
-use Rattle.graphs.specs.Events.{event, label, scan, traverse, History, _▸_, labelled, scanned}
+use Rattle.graphs.specs.Events.{event, label, scan, traverse, History, _▸_, known, labelled, scanned}
 use Rattle.graphs.specs.Search.{breadthFirst}
 use Rattle.graphs.specs.Image.{Image, edgesOf, to, graphOf}
 use Rattle.graphs.proofs.Labels.{Labels, labels-few}
 use Rattle.graphs.proofs.Breadth.{Kept}
 use Rattle.graphs.proofs.Room.{profile-ready}
+use Rattle.graphs.proofs.Blanks.{Listed}
 use Rattle.graphs.proofs.Sound.{Sound, head0, Linked, graph-closed}
 use Rattle.graphs.proofs.Queues.{Waiting, Scanning, queue-first, queue-begin, queue-pass, queue-join, queue-room, queue-room-edge, queue-end}
 use Rattle.walks.proofs.Reading.{target, target-is}
@@ -30,37 +31,37 @@ use Rattle.walks.proofs.Writing.{Emits, Puts, Starts, held-total, held-
 
 -- ---- vertices labelled
 -- The start is labelled, and waits.
-module _ (g : Image) (S : Sound g) (start : ℕ) (is-vertex : Vertex (g .n) start) where
-  pub first-waits : Waiting (graphOf g) start ([] ▸ event label 0 start) (start ∷ [])
-  first-waits = queue-first (graphOf g) start (profile-ready g S start is-vertex)
+module _ (g : Image) (S : Sound g) (before : List ℕ) (start : ℕ) (is-vertex : Vertex (g .n) start) (B : Listed (g .n) before start) where
+  pub first-waits : Waiting (graphOf g) before start ([] ▸ event label 0 start) (start ∷ [])
+  first-waits = queue-first (graphOf g) before start (profile-ready g S before start is-vertex B)
 
-  pub first-held : {marks₀ events₀ marks events t : List ℕ} → Roomy (g .n + g .m) (breadthWalk g start) marks₀ events₀ → Starts (g .n + g .m) start marks₀ events₀ marks events t
-      → Held (g .n + g .m) ([] ▸ event label 0 start) marks₀ events₀ marks events t
-  first-held R w = let r = queue-room (graphOf g) start (queue-begin (graphOf g) start (graph-closed g S) first-waits) in beginning R (omega arith) start (is-vertex .0) (omega (arith, is-vertex .1)) w
+  pub first-held : {marks₀ events₀ marks events t : List ℕ} → Roomy (g .n + g .m) (breadthWalk g before start) marks₀ events₀ → Starts (g .n + g .m) before start marks₀ events₀ marks events t
+      → Held (g .n + g .m) before ([] ▸ event label 0 start) marks₀ events₀ marks events t
+  first-held R w = let r = queue-room (graphOf g) before start (queue-begin (graphOf g) before start (graph-closed g S) first-waits) in beginning R (omega arith) start (B .start-fresh) (is-vertex .0) (omega (arith, is-vertex .1)) w
 
 -- Those that wait stand behind one another, before those scanned.
 done-once : (q us : List ℕ) → NoDup (reverseAux q us) → NoDup q
 done-once [] us h = tt
 done-once (d ∷ ds) us h = (λ k. split ds (d ∷ us) h .apart d (here refl) k, done-once ds (d ∷ us) h)
 
-queued : (n : ℕ) (q us ls : List ℕ) → ls ≡ reverseAux q us → Labels n (ls ++ []) → Labels n q
-queued n q us ls order L = record {
-  once = done-once q us (subst NoDup order (nodup-left ls [] (L .once)));
-  all = λ x k. L .all x (mem-left [] (subst (Mem x) (sym order) (mem-done us k)));
+queued : (n : ℕ) (before q us ls : List ℕ) → ls ≡ reverseAux q us → Labels n (ls ++ before) → Labels n q
+queued n before q us ls order L = record {
+  once = done-once q us (subst NoDup order (nodup-left ls before (L .once)));
+  all = λ x k. L .all x (mem-left before (subst (Mem x) (sym order) (mem-done us k)));
 }
 
-module _ {G : Graph} {start : ℕ} where
-  kept-labels : {us rs q ls : List ℕ} → Kept G [] start us rs q ls → Labels (G .size) ls
-  kept-labels {ls = ls} K = subst (Labels (G .size)) (append-nil ls) (K .vertices)
+module _ {G : Graph} {before : List ℕ} {start : ℕ} where
+  kept-labels : {us rs q ls : List ℕ} → Kept G before start us rs q ls → Labels (G .size) ls
+  kept-labels {ls = ls} K = record { once = nodup-left ls before (K .vertices .once); all = λ x k. K .vertices .all x (mem-left before k) }
 
   -- Those that wait are vertices, none twice; so are they with the one that is scanned.
-  pub waiting-queued : {h : History} {q : List ℕ} → Waiting G start h q → Labels (G .size) q
-  waiting-queued {h} {q} W = queued (G .size) q (scanned h) (labelled h) (W .kept .order) (W .kept .vertices)
+  pub waiting-queued : {h : History} {q : List ℕ} → Waiting G before start h q → Labels (G .size) q
+  waiting-queued {h} {q} W = queued (G .size) before q (scanned h) (labelled h) (W .kept .order) (W .kept .vertices)
 
-  pub scanning-queued : {h : History} {v : ℕ} {rest q : List ℕ} → Scanning G start h v rest q → Labels (G .size) (v ∷ q)
-  scanning-queued {h} {v} {q = q} S = queued (G .size) (v ∷ q) (scanned h) (labelled h) (S .kept .order) (S .kept .vertices)
+  pub scanning-queued : {h : History} {v : ℕ} {rest q : List ℕ} → Scanning G before start h v rest q → Labels (G .size) (v ∷ q)
+  scanning-queued {h} {v} {q = q} S = queued (G .size) before (v ∷ q) (scanned h) (labelled h) (S .kept .order) (S .kept .vertices)
 
-  module _ {h : History} {q : List ℕ} (W : Waiting G start h q) where
+  module _ {h : History} {q : List ℕ} (W : Waiting G before start h q) where
     -- So are those labelled.
     pub waiting-labels : Labels (G .size) (labelled h)
     waiting-labels = kept-labels (W .kept)
@@ -70,12 +71,12 @@ module _ {G : Graph} {start : ℕ} where
     waiting-count = ap length (W .kept .order) ∙ length-reverseAux q (scanned h)
 
     -- The events so far are among those of the whole search.
-    pub waiting-room : Closed G → length h ≤ length (breadthFirst G [] start)
+    pub waiting-room : Closed G → length h ≤ length (breadthFirst G before start)
     waiting-room C = go q W
       where
-        go : (l : List ℕ) → Waiting G start h l → length h ≤ length (breadthFirst G [] start)
-        go [] X = let e = ap length (queue-end G start X) in omega arith
-        go (v ∷ l) X = let k = queue-room G start (queue-begin G start C X) in omega arith
+        go : (l : List ℕ) → Waiting G before start h l → length h ≤ length (breadthFirst G before start)
+        go [] X = let e = ap length (queue-end G before start X) in omega arith
+        go (v ∷ l) X = let k = queue-room G before start (queue-begin G before start C X) in omega arith
 
 -- ---- edges ahead
 -- Of the list of v, the edges `done` were traversed and `rest` are ahead, the first of them e, 0 where there is none.
@@ -134,15 +135,15 @@ module _ {g : Image} (S : Sound g) {v : ℕ} (is-vertex : Vertex (g .n) v) where
 
 -- ---- within a scan
 -- v is scanned, after the events h: its edges `rest` are ahead, the vertices q wait, and the areas are those that the events so far leave.
-pub record InScan (g : Image) (start : ℕ) (h : History) (v : ℕ) (rest q marks₀ events₀ marks events t : List ℕ) : Type 0 where
-  pub roomy : Roomy (g .n + g .m) (breadthWalk g start) marks₀ events₀
-  pub scanning : Scanning (graphOf g) start h v rest q
-  pub held : Held (g .n + g .m) h marks₀ events₀ marks events t
+pub record InScan (g : Image) (before : List ℕ) (start : ℕ) (h : History) (v : ℕ) (rest q marks₀ events₀ marks events t : List ℕ) : Type 0 where
+  pub roomy : Roomy (g .n + g .m) (breadthWalk g before start) marks₀ events₀
+  pub scanning : Scanning (graphOf g) before start h v rest q
+  pub held : Held (g .n + g .m) before h marks₀ events₀ marks events t
 
-module _ {g : Image} {start v : ℕ} {h : History} {q marks₀ events₀ marks events t : List ℕ} where
-  module _ {rest : List ℕ} (I : InScan g start h v rest q marks₀ events₀ marks events t) where
-    scan-room : suc (length h) ≤ length (breadthWalk g start)
-    scan-room = queue-room (graphOf g) start (I .scanning)
+module _ {g : Image} {before : List ℕ} {start v : ℕ} {h : History} {q marks₀ events₀ marks events t : List ℕ} where
+  module _ {rest : List ℕ} (I : InScan g before start h v rest q marks₀ events₀ marks events t) where
+    scan-room : suc (length h) ≤ length (breadthWalk g before start)
+    scan-room = queue-room (graphOf g) before start (I .scanning)
 
     -- Fewer events are tallied than the longest walk has.
     pub scan-few : total t < 10000
@@ -153,19 +154,19 @@ module _ {g : Image} {start v : ℕ} {h : History} {q marks₀ events₀ marks e
     scan-kept = held-lengths (I .held) (I .roomy) (omega (arith, scan-room))
 
     -- With equal areas.
-    pub scan-same : {marks′ events′ t′ : List ℕ} → marks′ ≡ marks → events′ ≡ events → t′ ≡ t → InScan g start h v rest q marks₀ events₀ marks′ events′ t′
+    pub scan-same : {marks′ events′ t′ : List ℕ} → marks′ ≡ marks → events′ ≡ events → t′ ≡ t → InScan g before start h v rest q marks₀ events₀ marks′ events′ t′
     scan-same a b c = record { roomy = I .roomy; scanning = I .scanning; held = record { marked = a ∙ I .held .marked; written = b ∙ I .held .written; counts = c ∙ I .held .counts } }
 
     -- The scan is written.
     module _ {events′ t′ : List ℕ} (w : Emits 6 0 v events t events′ t′) where
-      pub over-held : Held (g .n + g .m) (h ▸ event scan 0 v) marks₀ events₀ marks events′ t′
+      pub over-held : Held (g .n + g .m) before (h ▸ event scan 0 v) marks₀ events₀ marks events′ t′
       over-held = emitted (I .held) (I .roomy) scan-room scan 0 v refl w
 
       pub over-total : total t′ ≡ suc (total t)
       over-total = held-total over-held ∙ ap suc (sym (held-total (I .held)))
 
   -- The edge e is ahead.
-  module _ {e : ℕ} {later : List ℕ} (I : InScan g start h v (e ∷ later) q marks₀ events₀ marks events t) where
+  module _ {e : ℕ} {later : List ℕ} (I : InScan g before start h v (e ∷ later) q marks₀ events₀ marks events t) where
     abbrev x : ℕ
     x = target g e
 
@@ -175,13 +176,13 @@ module _ {g : Image} {start v : ℕ} {h : History} {q marks₀ events₀ marks e
     pub leads-vertex : Vertex (g .n) x
     leads-vertex = subst (Vertex (g .n)) leads (I .scanning .kept .targets e (here refl))
 
-    -- The mark of x tells whether x is labelled.
-    mark-test : eqb (getD marks (x - 1) 0) 0 ≡ not (memb (to g e) (labelled h))
-    mark-test = ap (λ (w : ℕ). eqb w 0) (sym (read-at marks x)) ∙ held-test (I .held) x (leads-vertex .0) (omega (arith, leads-vertex .1)) ∙ ap (λ (y : ℕ). not (memb y (labelled h))) (sym leads)
+    -- The mark of x tells whether x is labelled or on the blank.
+    mark-test : eqb (getD marks (x - 1) 0) 0 ≡ not (memb (to g e) (known before h))
+    mark-test = ap (λ (w : ℕ). eqb w 0) (sym (read-at marks x)) ∙ held-test (I .held) x (leads-vertex .0) (omega (arith, leads-vertex .1)) ∙ ap (λ (y : ℕ). not (memb y (known before h))) (sym leads)
 
     -- It is traversed.
     module _ {events₁ t₁ : List ℕ} (one : Emits 7 e v events t events₁ t₁) where
-      crossed : Held (g .n + g .m) (h ▸ event traverse e v) marks₀ events₀ marks events₁ t₁
+      crossed : Held (g .n + g .m) before (h ▸ event traverse e v) marks₀ events₀ marks events₁ t₁
       crossed = emitted (I .held) (I .roomy) (scan-room I) traverse e v refl one
 
       pub crossed-total : total t₁ ≡ suc (total t)
@@ -191,23 +192,26 @@ module _ {g : Image} {start v : ℕ} {h : History} {q marks₀ events₀ marks e
       crossed-labels = held-labels crossed
 
       -- x is labelled already.
-      pub edge-pass : getD marks (x - 1) 0 ≢ 0 → InScan g start (h ▸ event traverse e v) v later q marks₀ events₀ marks events₁ t₁
-      edge-pass ne = record { roomy = I .roomy; scanning = queue-pass (graphOf g) start (I .scanning) (not-false (memb (to g e) (labelled h)) (sym mark-test ∙ ne-eqb (getD marks (x - 1) 0) 0 ne)); held = crossed }
+      pub edge-pass : getD marks (x - 1) 0 ≢ 0 → InScan g before start (h ▸ event traverse e v) v later q marks₀ events₀ marks events₁ t₁
+      edge-pass ne = record { roomy = I .roomy; scanning = queue-pass (graphOf g) before start (I .scanning) (not-false (memb (to g e) (known before h)) (sym mark-test ∙ ne-eqb (getD marks (x - 1) 0) 0 ne)); held = crossed }
 
       -- x is not labelled yet.
       module _ (null : getD marks (x - 1) 0 ≡ 0) where
-        fresh : memb (to g e) (labelled h) ≡ false
-        fresh = not-true (memb (to g e) (labelled h)) (sym mark-test ∙ eq-eqb (getD marks (x - 1) 0) 0 null)
+        fresh : memb (to g e) (known before h) ≡ false
+        fresh = not-true (memb (to g e) (known before h)) (sym mark-test ∙ eq-eqb (getD marks (x - 1) 0) 0 null)
 
-        pub edge-queue : Scanning (graphOf g) start (h ▸ event traverse e v ▸ event label 0 x) v later (q ++ (x ∷ []))
-        edge-queue = subst (λ (y : ℕ). Scanning (graphOf g) start (h ▸ event traverse e v ▸ event label 0 y) v later (q ++ (y ∷ []))) leads (queue-join (graphOf g) start (I .scanning) fresh)
+        off : Mem x before → ⊥
+        off m = memb-false (to g e) (known before h) fresh (mem-right (labelled h) (subst (λ (y : ℕ). Mem y before) (sym leads) m))
+
+        pub edge-queue : Scanning (graphOf g) before start (h ▸ event traverse e v ▸ event label 0 x) v later (q ++ (x ∷ []))
+        edge-queue = subst (λ (y : ℕ). Scanning (graphOf g) before start (h ▸ event traverse e v ▸ event label 0 y) v later (q ++ (y ∷ []))) leads (queue-join (graphOf g) before start (I .scanning) fresh)
 
         -- With x, no more vertices are labelled than there are.
         pub edge-fits : suc (length (labelled h)) ≤ g .n
         edge-fits = labels-few (g .n) (x ∷ labelled h) (kept-labels (edge-queue .kept))
 
-        pub edge-join : {marks₂ events₂ t₂ : List ℕ} → Puts x marks events₁ t₁ marks₂ events₂ t₂ → InScan g start (h ▸ event traverse e v ▸ event label 0 x) v later (q ++ (x ∷ [])) marks₀ events₀ marks₂ events₂ t₂
-        edge-join two = record { roomy = I .roomy; scanning = edge-queue; held = labelling crossed (I .roomy) (omega (arith, queue-room-edge (graphOf g) start (I .scanning) fresh)) x (leads-vertex .0) (omega (arith, leads-vertex .1)) two }
+        pub edge-join : {marks₂ events₂ t₂ : List ℕ} → Puts x marks events₁ t₁ marks₂ events₂ t₂ → InScan g before start (h ▸ event traverse e v ▸ event label 0 x) v later (q ++ (x ∷ [])) marks₀ events₀ marks₂ events₂ t₂
+        edge-join two = record { roomy = I .roomy; scanning = edge-queue; held = labelling crossed (I .roomy) (omega (arith, queue-room-edge (graphOf g) before start (I .scanning) fresh)) x off (leads-vertex .0) (omega (arith, leads-vertex .1)) two }
 
         pub edge-total : {marks₂ events₂ t₂ : List ℕ} → Puts x marks events₁ t₁ marks₂ events₂ t₂ → total t₂ ≡ suc (suc (total t))
         edge-total two = held-total (edge-join two .held) ∙ ap (λ (k : ℕ). suc (suc k)) (sym (held-total (I .held)))

@@ -10,6 +10,7 @@ use borrow.Author.Tests.{leb-true, leb-false, lt-ltb, le-ltb, le-leb, lt-leb}
 use Rattle.lists.specs.Words.{put, pasted, cleared}
 use Rattle.lists.proofs.Words.{pasted-none, pasted-next}
 use Rattle.lists.proofs.Tests.{and-none, both}
+use Rattle.graphs.specs.Results.{marksFirst}
 use Rattle.walks.specs.Writing.{total, counted, hasRoom, tallyAfter, eventsAfter, canLabel, labelTally, labelMarks, labelEvents}
 
 -- One word more is cleared.
@@ -21,6 +22,10 @@ cleared-next (suc i) (x ∷ area) h = ap (λ (l : List ℕ). 0 ∷ l) (cleared-n
 -- Where there are k words, k are cleared.
 pub all-cleared : (k : ℕ) (area : List ℕ) → k ≤ length area → cleared (min k (length area)) area ≡ cleared k area
 all-cleared k area h = let e : min k (length area) ≡ k = omega arith in ap (λ (j : ℕ). cleared j area) e
+
+-- Where there are k marks, so many are first.
+pub all-first : (k : ℕ) (before area : List ℕ) → k ≤ length area → marksFirst (min k (length area)) before area ≡ marksFirst k before area
+all-first k before area h = let e : min k (length area) ≡ k = omega arith in ap (λ (j : ℕ). marksFirst j before area) e
 
 -- Three words stored are three words pasted.
 pub three-stored : (at : ℕ) (area : List ℕ) (a b c : ℕ) → at + 3 ≤ length area → set (set (set area at a) (at + 1) b) (at + 2) c ≡ pasted at (a ∷ b ∷ c ∷ []) area

@@ -8,16 +8,17 @@ use native.Mathlib.Omega.{arith}
 use lib.Dec.{eqb}
 use borrow.Author.Tests.{le-leb}
 use lib.ListN.{length, getD, set}
-use Rattle.lists.specs.Members.{memb}
-use Rattle.lists.specs.Words.{at, put, pasted, cleared}
+use Rattle.lists.specs.Members.{Mem, memb}
+use Rattle.lists.specs.Words.{at, put, pasted}
 use Rattle.lists.proofs.Tests.{and-true}
-use Rattle.lists.proofs.Words.{length-cleared, cleared-filled}
-use Rattle.graphs.specs.Events.{Kind, event, label, advance-tree, advance-nontree, retreat-tree, retreat-nontree, scan, traverse, code, same, History, _▸_, labelled, tally}
+use Rattle.lists.proofs.Words.{length-filled}
+use Rattle.graphs.specs.Events.{Kind, event, label, advance-tree, advance-nontree, retreat-tree, retreat-nontree, scan, traverse, code, same, History, _▸_, known, labelled, tally}
+use Rattle.graphs.specs.Results.{unlessBlank, marksFirst}
 use Rattle.graphs.proofs.Results.{named-length, tally-sums}
 use Rattle.walks.specs.declared.depth.Progress.{Progress}
 use Rattle.walks.specs.Progress.{Written}
 use Rattle.walks.specs.Writing.{noEvents, total, counted, hasRoom, tallyAfter, eventsAfter, canLabel, labelTally, labelMarks, labelEvents, Held, Roomy}
-use Rattle.walks.proofs.Storing.{all-cleared}
+use Rattle.walks.proofs.Storing.{all-first}
 use Rattle.walks.proofs.Progress as progress
 
 -- ---- one event more
@@ -45,7 +46,7 @@ code-low traverse = (omega arith, omega arith)
 abbrev soFar : List ℕ → Progress
 soFar t = record { events = total t; labels = getD t 0 0 }
 
-module _ {k : ℕ} {h : History} {marks₀ events₀ marks events t : List ℕ} (H : Held k h marks₀ events₀ marks events t) where
+module _ {k : ℕ} {before : List ℕ} {h : History} {marks₀ events₀ marks events t : List ℕ} (H : Held k before h marks₀ events₀ marks events t) where
   -- As many events are tallied as there are.
   pub held-total : total t ≡ length h
   held-total = ap total (H .counts) ∙ tally-sums h
@@ -54,11 +55,11 @@ module _ {k : ℕ} {h : History} {marks₀ events₀ marks events t : List ℕ} 
   pub held-labels : getD t 0 0 ≡ length (labelled h)
   held-labels = ap (λ (l : List ℕ). getD l 0 0) (H .counts) ∙ sym (named-length label h)
 
-  held-written : Written k h marks₀ events₀ marks events (soFar t)
+  held-written : Written k before h marks₀ events₀ marks events (soFar t)
   held-written = record { marked = H .marked; written = H .written; made = held-total; labels = held-labels }
 
-  -- A mark of 0 is an unlabelled node.
-  pub held-test : (x : ℕ) → 0 < x → x ≤ k → eqb (at 0 marks x) 0 ≡ not (memb x (labelled h))
+  -- A mark of 0 is a node neither labelled nor on the blank.
+  pub held-test : (x : ℕ) → 0 < x → x ≤ k → eqb (at 0 marks x) 0 ≡ not (memb x (known before h))
   held-test = progress.written-test held-written
 
   -- With room for one event more.
@@ -77,31 +78,31 @@ module _ {k : ℕ} {h : History} {marks₀ events₀ marks events t : List ℕ} 
     can-label l u a b = let e = held-lengths (omega arith) in and-true (le-leb 1 u a) (and-true (le-leb u (length marks) (omega (arith, R .long-marks, e .0))) (can-emit l label))
 
     -- An event that labels nothing.
-    pub held-emit : suc (length h) ≤ length all → (j : Kind) (r u : ℕ) → same label j ≡ false → Held k (h ▸ event j r u) marks₀ events₀ marks (pasted (3 * total t) (code j ∷ r ∷ u ∷ []) events) (counted (code j) t)
+    pub held-emit : suc (length h) ≤ length all → (j : Kind) (r u : ℕ) → same label j ≡ false → Held k before (h ▸ event j r u) marks₀ events₀ marks (pasted (3 * total t) (code j ∷ r ∷ u ∷ []) events) (counted (code j) t)
     held-emit l j r u q = let W = progress.written-emit held-written R l j r u q in record { marked = W .marked; written = W .written; counts = ap (counted (code j)) (H .counts) ∙ tally-next h j r u }
 
     -- A label.
-    pub held-label : suc (length h) ≤ length all → (u : ℕ) → 0 < u → u ≤ k → Held k (h ▸ event label 0 u) marks₀ events₀ (put 0 marks u (suc (getD t 0 0))) (pasted (3 * total t) (1 ∷ 0 ∷ u ∷ []) events) (counted 1 t)
-    held-label l u a b = let W = progress.written-label held-written R l u a b in record { marked = W .marked; written = W .written; counts = ap (counted 1) (H .counts) ∙ tally-next h label 0 u }
+    pub held-label : suc (length h) ≤ length all → (u : ℕ) → (Mem u before → ⊥) → 0 < u → u ≤ k → Held k before (h ▸ event label 0 u) marks₀ events₀ (put 0 marks u (suc (getD t 0 0))) (pasted (3 * total t) (1 ∷ 0 ∷ u ∷ []) events) (counted 1 t)
+    held-label l u off a b = let W = progress.written-label held-written R l u off a b in record { marked = W .marked; written = W .written; counts = ap (counted 1) (H .counts) ∙ tally-next h label 0 u }
 
--- Nothing emitted, in marks cleared.
-pub held-none : (k : ℕ) (marks₀ events : List ℕ) → Held k [] marks₀ events (cleared k marks₀) events noEvents
-held-none k marks₀ events = record { marked = cleared-filled k marks₀; written = refl; counts = refl }
+-- Nothing emitted, in the marks first.
+pub held-none : (k : ℕ) (before marks₀ events : List ℕ) → Held k before [] marks₀ events (marksFirst k before marks₀) events noEvents
+held-none k before marks₀ events = record { marked = refl; written = refl; counts = refl }
 
 -- ---- what the functions that write ensure
--- An event written and counted; u labelled besides; all marks cleared and the start labelled.
+-- An event written and counted; u labelled besides; all marks first and the start labelled.
 abbrev pub Emits : ℕ → ℕ → ℕ → (events t events′ t′ : List ℕ) → Type 0
 Emits k r u events t events′ t′ = (t′ ≡ tallyAfter k t (length events)) × (events′ ≡ eventsAfter k r u t events)
 
 abbrev pub Puts : ℕ → (marks events t marks′ events′ t′ : List ℕ) → Type 0
 Puts u marks events t marks′ events′ t′ = (t′ ≡ labelTally u t (length marks) (length events)) × ((marks′ ≡ labelMarks u t marks (length events)) × (events′ ≡ labelEvents u t (length marks) events))
 
-abbrev pub Starts : ℕ → ℕ → (marks events marks′ events′ t′ : List ℕ) → Type 0
-Starts nodes start marks events marks′ events′ t′ = (t′ ≡ labelTally start noEvents (length marks) (length events)) × ((marks′ ≡ labelMarks start noEvents (cleared (min nodes (length marks)) marks) (length events)) × (events′ ≡ labelEvents start noEvents (length marks) events))
+abbrev pub Starts : ℕ → List ℕ → ℕ → (marks events marks′ events′ t′ : List ℕ) → Type 0
+Starts nodes before start marks events marks′ events′ t′ = (t′ ≡ labelTally start noEvents (length marks) (length events)) × ((marks′ ≡ labelMarks start noEvents (marksFirst (min nodes (length marks)) before marks) (length events)) × (events′ ≡ labelEvents start noEvents (length marks) events))
 
 -- What is held after such a call, where there is room.
-module _ {k : ℕ} {h all : History} {marks₀ events₀ marks events t events′ t′ : List ℕ} (H : Held k h marks₀ events₀ marks events t) (R : Roomy k all marks₀ events₀) (l : suc (length h) ≤ length all) where
-  pub emitted : (j : Kind) (r u : ℕ) → same label j ≡ false → Emits (code j) r u events t events′ t′ → Held k (h ▸ event j r u) marks₀ events₀ marks events′ t′
+module _ {k : ℕ} {before : List ℕ} {h all : History} {marks₀ events₀ marks events t events′ t′ : List ℕ} (H : Held k before h marks₀ events₀ marks events t) (R : Roomy k all marks₀ events₀) (l : suc (length h) ≤ length all) where
+  pub emitted : (j : Kind) (r u : ℕ) → same label j ≡ false → Emits (code j) r u events t events′ t′ → Held k before (h ▸ event j r u) marks₀ events₀ marks events′ t′
   emitted j r u q e =
       let E = held-emit H R l j r u q in
       let c = can-emit H R l j in
@@ -111,9 +112,9 @@ module _ {k : ℕ} {h all : History} {marks₀ events₀ marks events t events�
         counts = e .0 ∙ ap (λ (b : Bool). cond b (counted (code j) t) t) c ∙ E .counts;
       }
 
-  pub labelling : {marks′ : List ℕ} (u : ℕ) → 0 < u → u ≤ k → Puts u marks events t marks′ events′ t′ → Held k (h ▸ event label 0 u) marks₀ events₀ marks′ events′ t′
-  labelling u p q e =
-      let E = held-label H R l u p q in
+  pub labelling : {marks′ : List ℕ} (u : ℕ) → (Mem u before → ⊥) → 0 < u → u ≤ k → Puts u marks events t marks′ events′ t′ → Held k before (h ▸ event label 0 u) marks₀ events₀ marks′ events′ t′
+  labelling u off p q e =
+      let E = held-label H R l u off p q in
       let c = can-label H R l u p q in
       record {
         marked = e .1 .0 ∙ ap (λ (b : Bool). cond b (put 0 marks u (suc (getD t 0 0))) marks) c ∙ E .marked;
@@ -122,12 +123,12 @@ module _ {k : ℕ} {h all : History} {marks₀ events₀ marks events t events�
       }
 
 -- The start labelled.
-pub beginning : {k : ℕ} {all : History} {marks₀ events₀ marks events t : List ℕ} → Roomy k all marks₀ events₀ → 1 ≤ length all → (start : ℕ) → 0 < start → start ≤ k → Starts k start marks₀ events₀ marks events t → Held k ([] ▸ event label 0 start) marks₀ events₀ marks events t
-beginning {k} {all} {marks₀} {events₀} R l start a b w =
-    let N = held-none k marks₀ events₀ in
-    let c : cleared (min k (length marks₀)) marks₀ ≡ cleared k marks₀ = all-cleared k marks₀ (R .long-marks) in
-    let n : length (cleared k marks₀) ≡ length marks₀ = length-cleared k marks₀ (R .long-marks) in
-    labelling N R l start a b (
+pub beginning : {k : ℕ} {before : List ℕ} {all : History} {marks₀ events₀ marks events t : List ℕ} → Roomy k all marks₀ events₀ → 1 ≤ length all → (start : ℕ) → (Mem start before → ⊥) → 0 < start → start ≤ k → Starts k before start marks₀ events₀ marks events t → Held k before ([] ▸ event label 0 start) marks₀ events₀ marks events t
+beginning {k} {before} {all} {marks₀} {events₀} R l start off a b w =
+    let N = held-none k before marks₀ events₀ in
+    let c : marksFirst (min k (length marks₀)) before marks₀ ≡ marksFirst k before marks₀ = all-first k before marks₀ (R .long-marks) in
+    let n : length (marksFirst k before marks₀) ≡ length marks₀ = length-filled (unlessBlank before (λ x. 0)) k marks₀ (R .long-marks) in
+    labelling N R l start off a b (
       w .0 ∙ ap (λ (i : ℕ). labelTally start noEvents i (length events₀)) (sym n),
       (w .1 .0 ∙ ap (λ (m : List ℕ). labelMarks start noEvents m (length events₀)) c, w .1 .1 ∙ ap (λ (i : ℕ). labelEvents start noEvents i events₀) (sym n)),
     )

@@ -1,10 +1,11 @@
 -- A depth-first search without recursion, at a place: what is common to the walks by parent edges and over the array form.
 use Prim.Native.Nat.{ℕ, _≤_}
-use mathlib.Core.List.{List, []}
+use mathlib.Core.List.{List}
 use Rattle.lists.specs.Members.{Mem}
-use Rattle.graphs.specs.Graph.{Graph, Closed}
+use Rattle.graphs.specs.Graph.{Graph}
 use Rattle.graphs.specs.Events.{History, labelled}
 use Rattle.graphs.specs.Search.{depthFirst}
+use Rattle.graphs.specs.Claims.{Ready}
 use Rattle.graphs.proofs.Places.{Frame, Scene}
 use Rattle.graphs.proofs.Trees.{AllTrees}
 use Rattle.walks.specs.declared.depth.Progress.{Progress}
@@ -13,10 +14,10 @@ use Rattle.walks.specs.Progress.{Written}
 
 -- After the events h: v is being scanned, `done` passed, `rest` ahead, the frames s below; marks and events are those that h leaves, and t says how far the walk has come.
 -- Every tree edge so far leaves a labelled vertex.
-pub record Underway (G : Graph) (nodes start : ℕ) (h : History) (v : ℕ) (done rest : List ℕ) (s : List Frame) (marks₀ events₀ marks events : List ℕ) (t : Progress) : Type 0 where
-  pub closed : Closed G
+pub record Underway (G : Graph) (nodes : ℕ) (before : List ℕ) (start : ℕ) (h : History) (v : ℕ) (done rest : List ℕ) (s : List Frame) (marks₀ events₀ marks events : List ℕ) (t : Progress) : Type 0 where
+  pub ready : Ready G before start
   pub within : G .size ≤ nodes
-  pub roomy : Roomy nodes (depthFirst G [] start) marks₀ events₀
-  pub scene : Scene G start h v done rest s
+  pub roomy : Roomy nodes (depthFirst G before start) marks₀ events₀
+  pub scene : Scene G before start h v done rest s
   pub trees : AllTrees (λ r u. Mem u (labelled h)) h
-  pub areas : Written nodes h marks₀ events₀ marks events t
+  pub areas : Written nodes before h marks₀ events₀ marks events t

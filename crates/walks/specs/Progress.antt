@@ -50,9 +50,10 @@ depthTally p = cond (isWhole p)
     (p .labels ∷ (p .labels - 1) ∷ (p .events / 2 + 1 - 2 * p .labels) ∷ (p .events / 2 + 1 - 2 * p .labels) ∷ (p .labels - 1) ∷ p .labels ∷ 0 ∷ [])
     noEvents
 
--- The areas of a walk after the events h: `marks₀` and `events₀` are the areas as lent, the first k marks those of the nodes.
-pub record Written (k : ℕ) (h : History) (marks₀ events₀ marks events : List ℕ) (p : Progress) : Type 0 where
-  pub marked : marks ≡ marksLeft k h marks₀
+-- The areas of a walk after the events h, with the elements `before` on the blank: `marks₀` and `events₀` are the areas as lent, the first
+-- k marks those of the nodes.
+pub record Written (k : ℕ) (before : List ℕ) (h : History) (marks₀ events₀ marks events : List ℕ) (p : Progress) : Type 0 where
+  pub marked : marks ≡ marksLeft k before h marks₀
   pub written : events ≡ eventsLeft h events₀
   pub made : p .events ≡ length h
   pub labels : p .labels ≡ length (labelled h)

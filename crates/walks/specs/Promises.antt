@@ -5,7 +5,7 @@ use Rattle.graphs.specs.Events.{History, tally}
 use Rattle.graphs.specs.Search.{depthFirst, breadthFirst}
 use Rattle.graphs.specs.Image.{Image, graphOf}
 use Rattle.graphs.specs.ArrayForm.{ArrayForm, arrayGraph}
-use Rattle.graphs.specs.Refusals.{Lent, lent, searchNumber, arrayNumber}
+use Rattle.graphs.specs.Refusals.{Lent, lent, searchNumber, arraySearchNumber}
 use Rattle.walks.specs.Writing.{noEvents}
 
 -- ---- refusals
@@ -13,24 +13,25 @@ use Rattle.walks.specs.Writing.{noEvents}
 abbrev pub writtenAreas : ℕ → List ℕ → List ℕ → List Lent
 writtenAreas nodes marks events = lent nodes marks ∷ lent (6 * nodes) events ∷ []
 
--- The number of a walk of a linked image; `own` are the areas of this walk alone.
-abbrev pub walkNumber : Image → ℕ → List ℕ → List ℕ → List Lent → ℕ
-walkNumber g start marks events own = searchNumber g start (writtenAreas (g .n + g .m) marks events ++ own)
+-- The number of a walk of a linked image, with the elements already on the blank; `own` are the areas of this walk alone.
+abbrev pub walkNumber : Image → List ℕ → ℕ → List ℕ → List ℕ → List Lent → ℕ
+walkNumber g before start marks events own = searchNumber g before start (writtenAreas (g .n + g .m) marks events ++ own)
 
 -- The number of a walk of an array form: besides, n increments.
-abbrev pub arrayWalkNumber : ArrayForm → ℕ → List ℕ → List ℕ → List ℕ → ℕ
-arrayWalkNumber a start marks increments events = arrayNumber a start (writtenAreas (a .n + a .m) marks events ++ lent (a .n) increments ∷ [])
+abbrev pub arrayWalkNumber : ArrayForm → List ℕ → ℕ → List ℕ → List ℕ → List ℕ → ℕ
+arrayWalkNumber a before start marks increments events = arraySearchNumber a before start (writtenAreas (a .n + a .m) marks events ++ lent (a .n) increments ∷ [])
 
 -- ---- events
--- The events of a depth-first walk of an image, of one of an array form, and of a breadth-first walk.
-abbrev pub depthWalk : Image → ℕ → History
-depthWalk g start = depthFirst (graphOf g) [] start
+-- The events of a depth-first walk of an image, of one of an array form, and of a breadth-first walk; the elements on the blank are
+-- labelled before.
+abbrev pub depthWalk : Image → List ℕ → ℕ → History
+depthWalk g before start = depthFirst (graphOf g) before start
 
-abbrev pub arrayWalk : ArrayForm → ℕ → History
-arrayWalk a start = depthFirst (arrayGraph a) [] start
+abbrev pub arrayWalk : ArrayForm → List ℕ → ℕ → History
+arrayWalk a before start = depthFirst (arrayGraph a) before start
 
-abbrev pub breadthWalk : Image → ℕ → History
-breadthWalk g start = breadthFirst (graphOf g) [] start
+abbrev pub breadthWalk : Image → List ℕ → ℕ → History
+breadthWalk g before start = breadthFirst (graphOf g) before start
 
 -- ---- answers
 -- The tally of a call: that of its events, seven zeros where it is refused.

@@ -8,7 +8,7 @@ use lib.ListN.{length, getD, set}
 use Rattle.lists.specs.Counts.{sumOf}
 use Rattle.lists.specs.Words.{put, pasted}
 use Rattle.graphs.specs.Events.{History, tally}
-use Rattle.graphs.specs.Results.{eventsLeft, marksLeft}
+use Rattle.graphs.specs.Results.{eventsLeft, blankMark, marksLeft}
 
 -- The tally of no events.
 abbrev pub noEvents : List ℕ
@@ -47,9 +47,14 @@ labelMarks u t marks a = cond (canLabel u t (length marks) a) (put 0 marks u (su
 abbrev pub labelEvents : ℕ → List ℕ → ℕ → List ℕ → List ℕ
 labelEvents u t b events = cond (canLabel u t b (length events)) (pasted (3 * total t) (1 ∷ 0 ∷ u ∷ []) events) events
 
--- The areas of a walk after the events h: `marks₀` and `events₀` are the areas as lent, the first k marks those of the nodes.
-pub record Held (k : ℕ) (h : History) (marks₀ events₀ marks events t : List ℕ) : Type 0 where
-  pub marked : marks ≡ marksLeft k h marks₀
+-- One element on the blank marked, where it is one of the first k nodes.
+abbrev pub blankMarked : ℕ → ℕ → List ℕ → List ℕ
+blankMarked k x marks = cond (leb 1 x && leb x k) (put 0 marks x blankMark) marks
+
+-- The areas of a walk after the events h, with the elements `before` on the blank: `marks₀` and `events₀` are the areas as lent, the first
+-- k marks those of the nodes.
+pub record Held (k : ℕ) (before : List ℕ) (h : History) (marks₀ events₀ marks events t : List ℕ) : Type 0 where
+  pub marked : marks ≡ marksLeft k before h marks₀
   pub written : events ≡ eventsLeft h events₀
   pub counts : t ≡ tally h
 

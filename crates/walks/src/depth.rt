@@ -1,11 +1,11 @@
 // What a depth-first walk writes: marks and events. How far the walk has come is passed and returned, and the tally of a whole walk
 // follows from it. What has no room is not written, and then nothing changes.
-use crate::write::clear;
+use crate::write::mark_blanks;
 ghost use mathlib.Core.Path.{_≡_};
 ghost use Prim.Native.Nat.{_+_, _*_, min};
 ghost use lib.Dec.{leb};
 ghost use lib.ListN.{length};
-ghost use Rattle.lists.specs.Words.{cleared};
+ghost use Rattle.graphs.specs.Results.{marksFirst};
 ghost use Rattle.walks.specs.Progress.{noProgress, progressAfter, eventsAfter, labelProgress, labelMarks, labelEvents, depthTally};
 
 // The events written so far, and the vertices labelled.
@@ -68,13 +68,19 @@ pub fn label(marks: &mut [u16], events: &mut [u16], u: u16, p: Progress) -> Prog
     }
 }
 
-// Clears the marks of all nodes, and labels the start.
-pub fn begin(marks: &mut [u16], events: &mut [u16], nodes: usize, start: u16) -> Progress
+// Clears the marks of all nodes but those of the elements already on the blank, and labels the start.
+pub fn begin(
+    marks: &mut [u16],
+    events: &mut [u16],
+    nodes: usize,
+    before: &[u16],
+    start: u16,
+) -> Progress
     ensures progress { λ q. ⌜ q ≡ labelProgress start noProgress (length (now (marks .entry))) (length (now (events .entry))) ⌝ }
-    ensures marks { λ q. ⌜ now (marks .exit) ≡ labelMarks start noProgress (cleared (min nodes (length (now (marks .entry)))) (now (marks .entry))) (length (now (events .entry))) ⌝ }
+    ensures marks { λ q. ⌜ now (marks .exit) ≡ labelMarks start noProgress (marksFirst (min nodes (length (now (marks .entry)))) (now (before .entry)) (now (marks .entry))) (length (now (events .entry))) ⌝ }
     ensures events { λ q. ⌜ now (events .exit) ≡ labelEvents start noProgress (length (now (marks .entry))) (now (events .entry)) ⌝ }
 {
-    clear(marks, nodes);
+    mark_blanks(marks, nodes, before);
     let p = Progress {
         events: 0,
         labels: 0,

@@ -2,10 +2,13 @@
 //
 // Every public function takes any input at all. Document 01's element is a vertex here, its reference an edge.
 pub mod depth;
+mod listed;
 mod place;
 mod refusals;
 mod write;
 
+pub use listed::is_listed;
+pub use listed::rises;
 pub use place::Place;
 pub use refusals::array_walk_number;
 pub use refusals::search_number;
@@ -15,4 +18,5 @@ pub use write::begin;
 pub use write::clear;
 pub use write::emit;
 pub use write::label;
+pub use write::mark_blanks;
 pub use write::refused;

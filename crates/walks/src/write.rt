@@ -5,7 +5,8 @@ ghost use mathlib.Core.List.{[], _∷_};
 ghost use Prim.Native.Nat.{ℕ, _/_, min};
 ghost use lib.ListN.{length};
 ghost use Rattle.lists.specs.Words.{cleared};
-ghost use Rattle.walks.specs.Writing.{total, hasRoom, tallyAfter, eventsAfter, labelTally, labelMarks, labelEvents, noEvents};
+ghost use Rattle.graphs.specs.Results.{marksFirst};
+ghost use Rattle.walks.specs.Writing.{total, hasRoom, tallyAfter, eventsAfter, labelTally, labelMarks, labelEvents, blankMarked, noEvents};
 
 // A walker's answer: the number of its refusal, else 0, and its events by kind.
 pub struct Walked {
@@ -109,12 +110,49 @@ pub fn clear(area: &mut [u16], k: usize)
     }
 }
 
-// Clears the marks of all nodes, and labels the start.
-pub fn begin(marks: &mut [u16], events: &mut [u16], nodes: usize, start: u16) -> [u32; 7]
-    ensures tally { λ t. ⌜ t ≡ labelTally start noEvents (length (now (marks .entry))) (length (now (events .entry))) ⌝ }
-    ensures marks { λ t. ⌜ now (marks .exit) ≡ labelMarks start noEvents (cleared (min nodes (length (now (marks .entry)))) (now (marks .entry))) (length (now (events .entry))) ⌝ }
-    ensures events { λ t. ⌜ now (events .exit) ≡ labelEvents start noEvents (length (now (marks .entry))) (now (events .entry)) ⌝ }
+// Marks x with 65,535, where it is one of so many nodes and has a mark.
+fn mark_blank(marks: &mut [u16], nodes: usize, x: u16)
+    ensures { λ t. ⌜ now (marks .exit) ≡ blankMarked (min nodes (length (now (marks .entry)))) x (now (marks .entry)) ⌝ }
+{
+    if x == 0 {
+        return;
+    }
+    let node = x as usize;
+    if node > nodes {
+        return;
+    }
+    if node > marks.len() {
+        return;
+    }
+    let i = node - 1;
+    marks[i] = 65535;
+}
+
+// Clears the marks of all nodes, and marks the elements already on the blank with 65,535.
+pub fn mark_blanks(marks: &mut [u16], nodes: usize, before: &[u16])
+    ensures { λ t. ⌜ now (marks .exit) ≡ marksFirst (min nodes (length (now (marks .entry)))) (now (before .entry)) (now (marks .entry)) ⌝ }
 {
     clear(marks, nodes);
+    let mut i: usize = 0;
+    while i < before.len() {
+        let x = before[i];
+        mark_blank(marks, nodes, x);
+        i += 1;
+    }
+}
+
+// Clears the marks of all nodes but those of the elements already on the blank, and labels the start.
+pub fn begin(
+    marks: &mut [u16],
+    events: &mut [u16],
+    nodes: usize,
+    before: &[u16],
+    start: u16,
+) -> [u32; 7]
+    ensures tally { λ t. ⌜ t ≡ labelTally start noEvents (length (now (marks .entry))) (length (now (events .entry))) ⌝ }
+    ensures marks { λ t. ⌜ now (marks .exit) ≡ labelMarks start noEvents (marksFirst (min nodes (length (now (marks .entry)))) (now (before .entry)) (now (marks .entry))) (length (now (events .entry))) ⌝ }
+    ensures events { λ t. ⌜ now (events .exit) ≡ labelEvents start noEvents (length (now (marks .entry))) (now (events .entry)) ⌝ }
+{
+    mark_blanks(marks, nodes, before);
     label(marks, events, start, [0; 7])
 }

@@ -23,10 +23,10 @@ same-length-3 : tie.Need-same-length-3
 same-length-3 c = search needs
 
 returns : tie.Need-returns
-returns c = let s = c .before .before .before .before .before .before .before .before .before .before .args in walk-refused (image (s .n) (s .m) (s .after .now) (s .tail .now)) (s .start .0) (s .marks .now) (s .events .now) (c .before .before .walk-number .ensures [] refl) (c .refused .ensures) (c .before .if1 .taken)
+returns c = let s = c .before .before .before .before .before .before .before .before .before .before .before .args in walk-refused (image (s .n) (s .m) (s .after .now) (s .tail .now)) (s .before .now) (s .start .0) (s .marks .now) (s .events .now) (c .before .before .walk-number .ensures [] refl) (c .refused .ensures) (c .before .if1 .taken)
 
 search-requires : tie.Need-search-requires
-search-requires c κs = let s = c .before .before .before .before .before .before .before .before .before .before .before .before .args in walk-can (image (s .n) (s .m) (s .after .now) (s .tail .now)) (s .start .0) (s .marks .now) (s .events .now) (c .before .before .before .before .walk-number .ensures [] refl) (c .before .before .before .if1 .left)
+search-requires c κs = let s = c .before .before .before .before .before .before .before .before .before .before .before .before .before .args in walk-can (image (s .n) (s .m) (s .after .now) (s .tail .now)) (s .before .now) (s .start .0) (s .marks .now) (s .events .now) (c .before .before .before .before .walk-number .ensures [] refl) (c .before .before .before .if1 .left)
 
 same-length-4 : tie.Need-same-length-4
 same-length-4 c = search needs
@@ -38,7 +38,7 @@ same-length-6 : tie.Need-same-length-6
 same-length-6 c = search needs
 
 returns-2 : tie.Need-returns-2
-returns-2 c = let s = c .before .before .before .before .before .before .before .before .before .before .before .before .before .before .before .before .before .before .before .args in walk-taken (image (s .n) (s .m) (s .after .now) (s .tail .now)) (s .start .0) (s .marks .now) (s .events .now) (c .before .before .before .before .before .before .before .before .before .before .before .walk-number .ensures [] refl) (c .before .before .before .before .before .before .before .before .before .before .if1 .left) (c .before .before .before .before .before .before .search .ensures)
+returns-2 c = let s = c .before .before .before .before .before .before .before .before .before .before .before .before .before .before .before .before .before .before .before .before .args in walk-taken (image (s .n) (s .m) (s .after .now) (s .tail .now)) (s .before .now) (s .start .0) (s .marks .now) (s .events .now) (c .before .before .before .before .before .before .before .before .before .before .before .walk-number .ensures [] refl) (c .before .before .before .before .before .before .before .before .before .before .if1 .left) (c .before .before .before .before .before .before .search .ensures)
 
 pub bfs-folded-spec : {M : Type 1} → statement M
 bfs-folded-spec =

@@ -21,10 +21,10 @@ same-length-2 : tie.Need-same-length-2
 same-length-2 c = search needs
 
 returns : tie.Need-returns
-returns c = let a = c .before .before .before .before .before .before .before .before .before .before .args in walk-refused (image (a .n) (a .m) (a .after .now) (a .tail .now)) (a .start .0) (a .marks .now) (a .queue .now) (a .events .now) (c .before .before .walk-number .ensures (lent (a .n) (a .queue .now) ∷ []) (own-test (a .n) (a .queue .now))) (c .refused .ensures) (c .before .if1 .taken)
+returns c = let a = c .before .before .before .before .before .before .before .before .before .before .before .args in walk-refused (image (a .n) (a .m) (a .after .now) (a .tail .now)) (a .before .now) (a .start .0) (a .marks .now) (a .queue .now) (a .events .now) (c .before .before .walk-number .ensures (lent (a .n) (a .queue .now) ∷ []) (own-test (a .n) (a .queue .now))) (c .refused .ensures) (c .before .if1 .taken)
 
 search-requires : tie.Need-search-requires
-search-requires c κs = let a = c .before .before .before .before .before .before .before .before .before .before .before .before .args in walk-begins (image (a .n) (a .m) (a .after .now) (a .tail .now)) (a .start .0) (a .marks .now) (a .queue .now) (a .events .now) (c .before .before .before .before .walk-number .ensures (lent (a .n) (a .queue .now) ∷ []) (own-test (a .n) (a .queue .now))) (c .before .before .before .if1 .left)
+search-requires c κs = let a = c .before .before .before .before .before .before .before .before .before .before .before .before .before .args in walk-begins (image (a .n) (a .m) (a .after .now) (a .tail .now)) (a .before .now) (a .start .0) (a .marks .now) (a .queue .now) (a .events .now) (c .before .before .before .before .walk-number .ensures (lent (a .n) (a .queue .now) ∷ []) (own-test (a .n) (a .queue .now))) (c .before .before .before .if1 .left)
 
 same-length-3 : tie.Need-same-length-3
 same-length-3 c = search needs
@@ -36,7 +36,7 @@ same-length-5 : tie.Need-same-length-5
 same-length-5 c = search needs
 
 returns-2 : tie.Need-returns-2
-returns-2 c = let a = c .before .before .before .before .before .before .before .before .before .before .before .before .before .before .before .before .before .before .before .args in walk-ends (image (a .n) (a .m) (a .after .now) (a .tail .now)) (a .start .0) (a .marks .now) (a .queue .now) (a .events .now) (c .before .before .before .before .before .before .before .before .before .before .before .walk-number .ensures (lent (a .n) (a .queue .now) ∷ []) (own-test (a .n) (a .queue .now))) (c .before .before .before .before .before .before .before .before .before .before .if1 .left) (c .before .before .before .before .before .before .search .ensures)
+returns-2 c = let a = c .before .before .before .before .before .before .before .before .before .before .before .before .before .before .before .before .before .before .before .before .args in walk-ends (image (a .n) (a .m) (a .after .now) (a .tail .now)) (a .before .now) (a .start .0) (a .marks .now) (a .queue .now) (a .events .now) (c .before .before .before .before .before .before .before .before .before .before .before .walk-number .ensures (lent (a .n) (a .queue .now) ∷ []) (own-test (a .n) (a .queue .now))) (c .before .before .before .before .before .before .before .before .before .before .if1 .left) (c .before .before .before .before .before .before .search .ensures)
 
 pub bfs-queue-spec : {M : Type 1} → statement M
 bfs-queue-spec =

@@ -27,7 +27,7 @@ shared-slice-read-e : tie.Need-shared-slice-read-e Inv-loop μ-loop
 shared-slice-read-e c = let f = kept-first (c .before .before .before .before .before .before .pre) in omega arith
 
 loop-holds : tie.Need-loop-holds Inv-loop μ-loop
-loop-holds c = λ k ms qs es a. scan-start (c .before .before .before .before .before .before .pre) a
+loop-holds c = λ before k ms qs es a. scan-start (c .before .before .before .before .before .before .pre) a
 
 emit-requires : tie.Need-emit-requires Inv-loop μ-loop
 emit-requires c κs = search needs
@@ -136,7 +136,7 @@ same-length-3 : tie.Need-same-length-3 Inv-loop μ-loop
 same-length-3 c = c .before .before .emit2 .kept .0 ∙ kept-lengths (c .before .before .before .before .before .before .before .before .before .before .before .before .pre) (c .before .before .before .before .before .loop .inv) .1 .1
 
 returns : tie.Need-returns Inv-loop μ-loop
-returns c = λ k ms qs es a. scan-end (c .before .before .before .before .before .before .before .before .before .before .before .before .pre) a (c .before .before .before .before .before .loop .inv k ms qs es a) (c .before .before .before .before .loop-test .left) (c .before .before .emit2 .ensures)
+returns c = λ before k ms qs es a. scan-end (c .before .before .before .before .before .before .before .before .before .before .before .before .pre) a (c .before .before .before .before .before .loop .inv before k ms qs es a) (c .before .before .before .before .loop-test .left) (c .before .before .emit2 .ensures)
 
 pub scan-vertex-spec : {M : Type 1} → statement M
 scan-vertex-spec =

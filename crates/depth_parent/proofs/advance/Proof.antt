@@ -79,13 +79,13 @@ same-length-3 : tie.Need-same-length-3
 same-length-3 c = search needs
 
 returns : tie.Need-returns
-returns c = let z = c .before .before .before .before .before .before .before .before .before .before .before .before .before .before .before .before .before .before .before .before .before .pre in (λ marks₀ parents₀ events₀ A. tree-at A (z .1) (c .before .before .before .before .before .before .before .before .before .before .emit .ensures) (c .before .before .before .before .before .label .ensures) (c .before .before .before .before .before .before .before .before .before .before .before .before .if1 .taken), tree-total (z .0 .is) (z .1) (c .before .before .before .before .before .before .before .before .before .before .emit .ensures) (c .before .before .before .before .before .label .ensures))
+returns c = let z = c .before .before .before .before .before .before .before .before .before .before .before .before .before .before .before .before .before .before .before .before .before .pre in (λ before marks₀ parents₀ events₀ A. tree-at A (z .1) (c .before .before .before .before .before .before .before .before .before .before .emit .ensures) (c .before .before .before .before .before .label .ensures) (c .before .before .before .before .before .before .before .before .before .before .before .before .if1 .taken), tree-total (z .0 .is) (z .1) (c .before .before .before .before .before .before .before .before .before .before .emit .ensures) (c .before .before .before .before .before .label .ensures) (c .before .before .before .before .before .before .before .before .before .before .before .before .if1 .taken))
 
 same-length-4 : tie.Need-same-length-4
 same-length-4 c = search needs
 
 returns-2 : tie.Need-returns-2
-returns-2 c = let z = c .before .before .before .before .before .before .before .before .before .before .before .before .before .before .before .before .before .before .pre in (λ marks₀ parents₀ events₀ A. pass-at A (z .1) (c .before .before .before .before .before .before .before .emit2 .ensures) (c .before .before .before .emit3 .ensures) (c .before .before .before .before .before .before .before .before .before .if1 .left), pass-total (z .0 .is) (z .1) (c .before .before .before .before .before .before .before .emit2 .ensures) (c .before .before .before .emit3 .ensures))
+returns-2 c = let z = c .before .before .before .before .before .before .before .before .before .before .before .before .before .before .before .before .before .before .pre in (λ before marks₀ parents₀ events₀ A. pass-at A (z .1) (c .before .before .before .before .before .before .before .emit2 .ensures) (c .before .before .before .emit3 .ensures) (c .before .before .before .before .before .before .before .before .before .if1 .left), pass-total (z .0 .is) (z .1) (c .before .before .before .before .before .before .before .emit2 .ensures) (c .before .before .before .emit3 .ensures))
 
 pub advance-spec : {M : Type 1} → statement M
 advance-spec =

@@ -25,10 +25,10 @@ same-length-2 : tie.Need-same-length-2
 same-length-2 c = search needs
 
 returns : tie.Need-returns
-returns c = let z = c .before .before .before .before .before .before .before .before .before .before .args in let r = c .refused .result .number in let ne : c .refused .result .number ≡ 0 → ⊥ = λ e. c .before .if1 .taken (sym (c .refused .ensures .0) ∙ e) in (c .refused .ensures .0 ∙ c .before .before .walk-number .ensures (lent (z .n) (z .parents .now) ∷ []) (own-test (z .n) (z .parents .now)), (c .refused .ensures .1 ∙ zeros-tallied r _ ne, (refused r _ (z .marks .now) ne, (refused r _ (z .parents .now) ne, refused r _ (z .events .now) ne))))
+returns c = let z = c .before .before .before .before .before .before .before .before .before .before .before .args in let r = c .refused .result .number in let ne : c .refused .result .number ≡ 0 → ⊥ = λ e. c .before .if1 .taken (sym (c .refused .ensures .0) ∙ e) in (c .refused .ensures .0 ∙ c .before .before .walk-number .ensures (lent (z .n) (z .parents .now) ∷ []) (own-test (z .n) (z .parents .now)), (c .refused .ensures .1 ∙ zeros-tallied r _ ne, (refused r _ (z .marks .now) ne, (refused r _ (z .parents .now) ne, refused r _ (z .events .now) ne))))
 
 search-requires : tie.Need-search-requires
-search-requires c κs = let z = c .before .before .before .before .before .before .before .before .before .before .before .before .args in can-search (image (z .n) (z .m) (z .after .now) (z .tail .now)) (z .start .0) (z .marks .now) (z .parents .now) (z .events .now) (sym (c .before .before .before .before .walk-number .ensures (lent (z .n) (z .parents .now) ∷ []) (own-test (z .n) (z .parents .now))) ∙ c .before .before .before .if1 .left)
+search-requires c κs = let z = c .before .before .before .before .before .before .before .before .before .before .before .before .before .args in can-search (image (z .n) (z .m) (z .after .now) (z .tail .now)) (z .before .now) (z .start .0) (z .marks .now) (z .parents .now) (z .events .now) (sym (c .before .before .before .before .walk-number .ensures (lent (z .n) (z .parents .now) ∷ []) (own-test (z .n) (z .parents .now))) ∙ c .before .before .before .if1 .left)
 
 same-length-3 : tie.Need-same-length-3
 same-length-3 c = search needs
@@ -40,7 +40,7 @@ same-length-5 : tie.Need-same-length-5
 same-length-5 c = search needs
 
 returns-2 : tie.Need-returns-2
-returns-2 c = let z = c .before .before .before .before .before .before .before .before .before .before .before .before .before .before .before .before .before .before .before .args in let e = c .before .before .before .before .before .before .search .ensures in (sym (c .before .before .before .before .before .before .before .before .before .before .if1 .left) ∙ c .before .before .before .before .before .before .before .before .before .before .before .walk-number .ensures (lent (z .n) (z .parents .now) ∷ []) (own-test (z .n) (z .parents .now)), (e .held .counts, (e .held .marked, (e .parents-left, e .held .written))))
+returns-2 c = let z = c .before .before .before .before .before .before .before .before .before .before .before .before .before .before .before .before .before .before .before .before .args in let e = c .before .before .before .before .before .before .search .ensures in (sym (c .before .before .before .before .before .before .before .before .before .before .if1 .left) ∙ c .before .before .before .before .before .before .before .before .before .before .before .walk-number .ensures (lent (z .n) (z .parents .now) ∷ []) (own-test (z .n) (z .parents .now)), (e .held .counts, (e .held .marked, (e .parents-left, e .held .written))))
 
 pub dfs-parent-spec : {M : Type 1} → statement M
 dfs-parent-spec =

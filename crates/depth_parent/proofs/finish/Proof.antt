@@ -14,7 +14,7 @@ abbrev μ-loop : tie.MeasureT-loop
 μ-loop n m start after tail marks₀ parents₀ events₀ q₀ marks parents events q = 10000 - q .progress .events
 
 loop-holds : tie.Need-loop-holds Inv-loop μ-loop
-loop-holds c = λ marks₀ parents₀ events₀ A. A
+loop-holds c = λ before marks₀ parents₀ events₀ A. A
 
 descend-requires : tie.Need-descend-requires Inv-loop μ-loop
 descend-requires c κs = goes-some (c .before .before .before .before .before .before .before .before .before .pre) (c .before .before .before .loop .inv)

@@ -57,7 +57,7 @@ same-length : tie.Need-same-length
 same-length c = search needs
 
 returns : tie.Need-returns
-returns c = let z = c .before .before .before .before .before .before .before .before .before .before .before .before .before .before .before .before .before .pre in (λ marks₀ parents₀ events₀ A. retreat-at A (z .1) (z .2) (c .before .before .before .before .before .before .before .before .before .emit .ensures) (c .before .before .before .before .before .if1 .u) (c .before .before .before .emit2 .ensures) (⊎-elim (λ w. w .2 ∙ back-target A (z .1) (z .2) (w .0 .taken)) (λ w. w .1 ∙ back-start A (z .1) (z .2) (w .0 .left)) (c .before .before .before .before .before .if1 .came)), retreat-total (z .0 .is) (z .1) (z .2) (c .before .before .before .before .before .before .before .before .before .emit .ensures) (c .before .before .before .before .before .if1 .u) (c .before .before .before .emit2 .ensures) (⊎-elim (λ w. w .2 ∙ back-target (z .0 .is) (z .1) (z .2) (w .0 .taken)) (λ w. w .1 ∙ back-start (z .0 .is) (z .1) (z .2) (w .0 .left)) (c .before .before .before .before .before .if1 .came)))
+returns c = let z = c .before .before .before .before .before .before .before .before .before .before .before .before .before .before .before .before .before .pre in (λ before marks₀ parents₀ events₀ A. retreat-at A (z .1) (z .2) (c .before .before .before .before .before .before .before .before .before .emit .ensures) (c .before .before .before .before .before .if1 .u) (c .before .before .before .emit2 .ensures) (⊎-elim (λ w. w .2 ∙ back-target A (z .1) (z .2) (w .0 .taken)) (λ w. w .1 ∙ back-start A (z .1) (z .2) (w .0 .left)) (c .before .before .before .before .before .if1 .came)), retreat-total (z .0 .is) (z .1) (z .2) (c .before .before .before .before .before .before .before .before .before .emit .ensures) (c .before .before .before .before .before .if1 .u) (c .before .before .before .emit2 .ensures) (⊎-elim (λ w. w .2 ∙ back-target (z .0 .is) (z .1) (z .2) (w .0 .taken)) (λ w. w .1 ∙ back-start (z .0 .is) (z .1) (z .2) (w .0 .left)) (c .before .before .before .before .before .if1 .came)))
 
 pub retreat-spec : {M : Type 1} → statement M
 retreat-spec =

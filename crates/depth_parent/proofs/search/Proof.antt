@@ -24,7 +24,7 @@ same-length-3 : tie.Need-same-length-3
 same-length-3 c = search needs
 
 returns : tie.Need-returns
-returns c = search-ends (c .before .before .before .before .before .before .before .before .before .before .before .before .finish .ensures .0 _ _ _ (c .before .before .before .before .before .before .before .before .before .before .before .before .before .before .before .before .before .before .before .before .before .before .«open» .ensures)) (c .before .before .before .before .before .before .before .before .before .before .before .before .finish .ensures .1 .0) (c .before .before .before .before .before .before .before .before .before .before .before .before .finish .ensures .1 .1) (c .before .before .before .emit .ensures) (c .tally .ensures)
+returns c = search-ends (c .before .before .before .before .before .before .before .before .before .before .before .before .finish .ensures .0 _ _ _ _ (c .before .before .before .before .before .before .before .before .before .before .before .before .before .before .before .before .before .before .before .before .before .before .«open» .ensures)) (c .before .before .before .before .before .before .before .before .before .before .before .before .finish .ensures .1 .0) (c .before .before .before .before .before .before .before .before .before .before .before .before .finish .ensures .1 .1) (c .before .before .before .emit .ensures) (c .tally .ensures)
 
 tally-requires : tie.Need-tally-requires
 tally-requires c κs = search needs

@@ -115,7 +115,7 @@ search-vertex-loop-holds : (t : ℕ) → search-vertex-lts.Need-loop-holds (
   emit-reads.Asked,
   emit-reads.Learnt,
 ) (search-vertex-at t) search-vertex.Post search-vertex-Inv-loop search-vertex-μ-loop
-search-vertex-loop-holds t c = λ h marks₀ events₀ U. U
+search-vertex-loop-holds t c = λ before h marks₀ events₀ U. U
 
 search-vertex-traverse-edge-requires : (t : ℕ) → search-vertex-lts.Need-traverse-edge-requires (
   label-reads.Asked,
@@ -197,9 +197,9 @@ search-vertex-loop-again : (t : ℕ) → search-vertex-lts.Need-loop-again (
   emit-reads.Asked,
   emit-reads.Learnt,
 ) (search-vertex-at t) search-vertex.Post search-vertex-Inv-loop search-vertex-μ-loop
-search-vertex-loop-again t c = λ h marks₀ events₀ B.
-    let U = c .before .before .before .before .before .before .before .before .before .loop .inv h marks₀ events₀ B in
-    way-turns U (c .before .before .before .before .before .before .before .before .loop-test .taken) (c .before .before .before .before .before .traverse-edge .ensures (U .so-far) marks₀ events₀ (way-edge U (c .before .before .before .before .before .before .before .before .loop-test .taken)))
+search-vertex-loop-again t c = λ before h marks₀ events₀ B.
+    let U = c .before .before .before .before .before .before .before .before .before .loop .inv before h marks₀ events₀ B in
+    way-turns U (c .before .before .before .before .before .before .before .before .loop-test .taken) (c .before .before .before .before .before .traverse-edge .ensures before (U .so-far) marks₀ events₀ (way-edge U (c .before .before .before .before .before .before .before .before .loop-test .taken)))
 
 search-vertex-emit-requires : (t : ℕ) → search-vertex-lts.Need-emit-requires (
   label-reads.Asked,
@@ -243,8 +243,8 @@ search-vertex-returns : (t : ℕ) → search-vertex-lts.Need-returns (
   emit-reads.Asked,
   emit-reads.Learnt,
 ) (search-vertex-at t) search-vertex.Post search-vertex-Inv-loop search-vertex-μ-loop
-search-vertex-returns t c = λ h marks₀ events₀ S.
-    way-ends (c .before .before .before .before .before .loop .inv h marks₀ events₀ (search-begins S (c .before .before .before .before .before .before .before .before .before .before .before .label .ensures))) (c .before .before .before .before .loop-test .left) (c .before .before .emit .ensures)
+search-vertex-returns t c = λ before h marks₀ events₀ S.
+    way-ends (c .before .before .before .before .before .loop .inv before h marks₀ events₀ (search-begins S (c .before .before .before .before .before .before .before .before .before .before .before .label .ensures))) (c .before .before .before .before .loop-test .left) (c .before .before .emit .ensures)
 
 traverse-edge-sub-j : (t : ℕ) → traverse-edge-lts.Need-sub-j (
   emit-reads.Asked,
@@ -368,7 +368,7 @@ traverse-edge-same-length : (t : ℕ) → traverse-edge-lts.Need-same-length (
 ) (traverse-edge-at t) traverse-edge.Post
 traverse-edge-same-length t c =
     let P = c .before .before .before .before .before .before .before .before .before .before .before .before .before .before .before .before .before .before .before .before .before .before .pre .1 in
-    tree-lengths (P .traversing) (c .before .before .before .before .before .before .before .before .before .before .before .before .before .before .before .if1 .taken) (c .before .before .before .before .before .before .before .before .before .before .before .before .before .emit .ensures) (c .before .before .before .before .before .before .before .before .search-vertex .ensures _ (P .marks₀) (P .events₀) (tree-search (P .traversing) (c .before .before .before .before .before .before .before .before .before .before .before .before .before .before .before .if1 .taken) (c .before .before .before .before .before .before .before .before .before .before .before .before .before .emit .ensures))) .0
+    tree-lengths (P .traversing) (c .before .before .before .before .before .before .before .before .before .before .before .before .before .before .before .if1 .taken) (c .before .before .before .before .before .before .before .before .before .before .before .before .before .emit .ensures) (c .before .before .before .before .before .before .before .before .search-vertex .ensures (P .before) _ (P .marks₀) (P .events₀) (tree-search (P .traversing) (c .before .before .before .before .before .before .before .before .before .before .before .before .before .before .before .if1 .taken) (c .before .before .before .before .before .before .before .before .before .before .before .before .before .emit .ensures))) .0
 
 traverse-edge-same-length-2 : (t : ℕ) → traverse-edge-lts.Need-same-length-2 (
   emit-reads.Asked,
@@ -378,7 +378,7 @@ traverse-edge-same-length-2 : (t : ℕ) → traverse-edge-lts.Need-same-length-2
 ) (traverse-edge-at t) traverse-edge.Post
 traverse-edge-same-length-2 t c =
     let P = c .before .before .before .before .before .before .before .before .before .before .before .before .before .before .before .before .before .before .before .before .before .before .pre .1 in
-    c .before .before .emit2 .kept .0 ∙ tree-lengths (P .traversing) (c .before .before .before .before .before .before .before .before .before .before .before .before .before .before .before .if1 .taken) (c .before .before .before .before .before .before .before .before .before .before .before .before .before .emit .ensures) (c .before .before .before .before .before .before .before .before .search-vertex .ensures _ (P .marks₀) (P .events₀) (tree-search (P .traversing) (c .before .before .before .before .before .before .before .before .before .before .before .before .before .before .before .if1 .taken) (c .before .before .before .before .before .before .before .before .before .before .before .before .before .emit .ensures))) .1
+    c .before .before .emit2 .kept .0 ∙ tree-lengths (P .traversing) (c .before .before .before .before .before .before .before .before .before .before .before .before .before .before .before .if1 .taken) (c .before .before .before .before .before .before .before .before .before .before .before .before .before .emit .ensures) (c .before .before .before .before .before .before .before .before .search-vertex .ensures (P .before) _ (P .marks₀) (P .events₀) (tree-search (P .traversing) (c .before .before .before .before .before .before .before .before .before .before .before .before .before .before .before .if1 .taken) (c .before .before .before .before .before .before .before .before .before .before .before .before .before .emit .ensures))) .1
 
 traverse-edge-returns : (t : ℕ) → traverse-edge-lts.Need-returns (
   emit-reads.Asked,
@@ -386,8 +386,8 @@ traverse-edge-returns : (t : ℕ) → traverse-edge-lts.Need-returns (
   search-vertex-below t,
   search-vertex.Post,
 ) (traverse-edge-at t) traverse-edge.Post
-traverse-edge-returns t c = λ h marks₀ events₀ T.
-    tree-held T (c .before .before .before .before .before .before .before .before .before .before .before .before .before .before .before .if1 .taken) (c .before .before .before .before .before .before .before .before .before .before .before .before .before .emit .ensures) (c .before .before .before .before .before .before .before .before .search-vertex .ensures _ marks₀ events₀ (tree-search T (c .before .before .before .before .before .before .before .before .before .before .before .before .before .before .before .if1 .taken) (c .before .before .before .before .before .before .before .before .before .before .before .before .before .emit .ensures))) (c .before .before .emit2 .ensures)
+traverse-edge-returns t c = λ before h marks₀ events₀ T.
+    tree-held T (c .before .before .before .before .before .before .before .before .before .before .before .before .before .before .before .if1 .taken) (c .before .before .before .before .before .before .before .before .before .before .before .before .before .emit .ensures) (c .before .before .before .before .before .before .before .before .search-vertex .ensures before _ marks₀ events₀ (tree-search T (c .before .before .before .before .before .before .before .before .before .before .before .before .before .before .before .if1 .taken) (c .before .before .before .before .before .before .before .before .before .before .before .before .before .emit .ensures))) (c .before .before .emit2 .ensures)
 
 traverse-edge-same-length-3 : (t : ℕ) → traverse-edge-lts.Need-same-length-3 (
   emit-reads.Asked,
@@ -403,7 +403,7 @@ traverse-edge-returns-2 : (t : ℕ) → traverse-edge-lts.Need-returns-2 (
   search-vertex-below t,
   search-vertex.Post,
 ) (traverse-edge-at t) traverse-edge.Post
-traverse-edge-returns-2 t c = λ h marks₀ events₀ T.
+traverse-edge-returns-2 t c = λ before h marks₀ events₀ T.
     pass-held T (c .before .before .before .before .before .before .before .before .if1 .left) (c .before .before .before .before .before .before .emit3 .ensures) (c .before .before .emit4 .ensures)
 
 pub +search-vertex+traverse-edge-spec : {M : Type 1} → statement M

@@ -20,18 +20,18 @@ same-length-2 : tie.Need-same-length-2
 same-length-2 c = search needs
 
 returns : tie.Need-returns
-returns c = let a = c .before .before .before .before .before .before .before .before .before .args in let f = c .refused .ensures in walk-refused (image (a .n) (a .m) (a .after .now) (a .tail .now)) (a .start .0) (a .marks .now) (a .events .now) (f .0) (c .before .before .walk-number .ensures [] refl) (c .before .if1 .taken) (f .1)
+returns c = let a = c .before .before .before .before .before .before .before .before .before .before .args in let f = c .refused .ensures in walk-refused (image (a .n) (a .m) (a .after .now) (a .tail .now)) (a .before .now) (a .start .0) (a .marks .now) (a .events .now) (f .0) (c .before .before .walk-number .ensures [] refl) (c .before .if1 .taken) (f .1)
 
-add-clear : tie.Need-add-clear
-add-clear c = search needs
+add-mark-blanks : tie.Need-add-mark-blanks
+add-mark-blanks c = search needs
 
-clear-requires : tie.Need-clear-requires
-clear-requires c κs = search needs
+mark-blanks-requires : tie.Need-mark-blanks-requires
+mark-blanks-requires c κs = search needs
 
 search-vertex-requires : tie.Need-search-vertex-requires
 search-vertex-requires c κs =
-    let a = c .before .before .before .before .before .before .before .before .before .before .before .before .before .before .args in
-    record { h = []; marks₀ = a .marks .now; events₀ = a .events .now; searching = walk-begins (image (a .n) (a .m) (a .after .now) (a .tail .now)) (a .start .0) (a .marks .now) (a .events .now) (c .before .before .before .before .before .before .before .walk-number .ensures [] refl) (c .before .before .before .before .before .before .if1 .left) (c .before .before .before .before .clear .ensures) }
+    let a = c .before .before .before .before .before .before .before .before .before .before .before .before .before .before .before .args in
+    record { before = a .before .now; h = []; marks₀ = a .marks .now; events₀ = a .events .now; searching = walk-begins (image (a .n) (a .m) (a .after .now) (a .tail .now)) (a .before .now) (a .start .0) (a .marks .now) (a .events .now) (c .before .before .before .before .before .before .before .walk-number .ensures [] refl) (c .before .before .before .before .before .before .if1 .left) (c .before .before .before .before .mark-blanks .ensures) }
 
 same-length-3 : tie.Need-same-length-3
 same-length-3 c = search needs
@@ -40,7 +40,7 @@ same-length-4 : tie.Need-same-length-4
 same-length-4 c = search needs
 
 returns-2 : tie.Need-returns-2
-returns-2 c = let a = c .before .before .before .before .before .before .before .before .before .before .before .before .before .before .before .before .before .before .before .before .args in let f = c .before .before .before .before .before .before .before .before .before .before .before .before .before .walk-number .ensures [] refl in let z = c .before .before .before .before .before .before .before .before .before .before .before .before .if1 .left in let g = image (a .n) (a .m) (a .after .now) (a .tail .now) in walk-ends g (a .start .0) (a .marks .now) (a .events .now) f z (c .before .before .before .before .before .search-vertex .ensures [] (a .marks .now) (a .events .now) (walk-begins g (a .start .0) (a .marks .now) (a .events .now) f z (c .before .before .before .before .before .before .before .before .before .before .clear .ensures))) (c .tally .ensures)
+returns-2 c = let a = c .before .before .before .before .before .before .before .before .before .before .before .before .before .before .before .before .before .before .before .before .before .args in let f = c .before .before .before .before .before .before .before .before .before .before .before .before .before .walk-number .ensures [] refl in let z = c .before .before .before .before .before .before .before .before .before .before .before .before .if1 .left in let g = image (a .n) (a .m) (a .after .now) (a .tail .now) in walk-ends g (a .before .now) (a .start .0) (a .marks .now) (a .events .now) f z (c .before .before .before .before .before .search-vertex .ensures (a .before .now) [] (a .marks .now) (a .events .now) (walk-begins g (a .before .now) (a .start .0) (a .marks .now) (a .events .now) f z (c .before .before .before .before .before .before .before .before .before .before .mark-blanks .ensures))) (c .tally .ensures)
 
 tally-requires : tie.Need-tally-requires
 tally-requires c κs = search needs
@@ -48,4 +48,4 @@ tally-requires c κs = search needs
 pub dfs-recursive-spec : {M : Type 1} → statement M
 dfs-recursive-spec =
     tie.close
-    (tie.spec walk-number-requires refused-requires same-length same-length-2 returns add-clear clear-requires search-vertex-requires tally-requires same-length-3 same-length-4 returns-2)
+    (tie.spec walk-number-requires refused-requires same-length same-length-2 returns add-mark-blanks mark-blanks-requires search-vertex-requires tally-requires same-length-3 same-length-4 returns-2)

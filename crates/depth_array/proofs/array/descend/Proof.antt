@@ -13,7 +13,7 @@ abbrev μ-loop : tie.MeasureT-loop
 μ-loop n m start firsts tails₀ marks₀ increments₀ events₀ q₀ tails marks increments events q = 10000 - q .progress .events
 
 loop-holds : tie.Need-loop-holds Inv-loop μ-loop
-loop-holds c = (λ t m i e A. A, omega arith)
+loop-holds c = (λ b t m i e A. A, omega arith)
 
 cast-if1 : tie.Need-cast-if1 Inv-loop μ-loop
 cast-if1 c = let w = within (some-onward (c .before .before .before .before .before .before .before .pre) (c .before .loop .inv .0) .is) in omega arith
@@ -31,7 +31,7 @@ loop-less : tie.Need-loop-less Inv-loop μ-loop
 loop-less c = let x = tail (some-onward (c .before .before .before .before .before .before .before .before .before .before .before .before .before .before .before .before .before .before .before .before .before .before .before .pre) (c .before .before .before .before .before .before .before .before .before .before .before .before .before .before .before .before .before .loop .inv .0) .is) (is-ahead _ _ _ (c .before .before .before .before .before .before .before .before .before .before .before .before .before .if1 .taken)) in omega (arith, c .before .before .before .before .before .before .before .before .advance .ensures .1)
 
 loop-again : tie.Need-loop-again Inv-loop μ-loop
-loop-again c = (λ t m i e A. c .before .before .before .before .before .before .before .before .advance .ensures .0 t m i e (c .before .before .before .before .before .before .before .before .before .before .before .before .before .before .before .before .before .loop .inv .0 t m i e A), omega (arith, c .before .before .before .before .before .before .before .before .advance .ensures .1, c .before .before .before .before .before .before .before .before .before .before .before .before .before .before .before .before .before .loop .inv .1))
+loop-again c = (λ b t m i e A. c .before .before .before .before .before .before .before .before .advance .ensures .0 b t m i e (c .before .before .before .before .before .before .before .before .before .before .before .before .before .before .before .before .before .loop .inv .0 b t m i e A), omega (arith, c .before .before .before .before .before .before .before .before .advance .ensures .1, c .before .before .before .before .before .before .before .before .before .before .before .before .before .before .before .before .before .loop .inv .1))
 
 same-length : tie.Need-same-length Inv-loop μ-loop
 same-length c = kept (c .before .before .before .before .before .before .before .before .before .before .pre) (c .before .before .before .before .loop .inv .0) .tails-long

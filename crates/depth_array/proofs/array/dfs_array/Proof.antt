@@ -28,10 +28,10 @@ same-length-4 : tie.Need-same-length-4
 same-length-4 c = search needs
 
 returns : tie.Need-returns
-returns c = let z = c .before .before .before .before .before .before .before .before .before .before .before .before .args in let k = c .refused .result .number in let ne : k ≢ 0 = λ e. c .before .if1 .taken (sym (c .refused .ensures .0) ∙ e) in (c .refused .ensures .0 ∙ c .before .before .array-walk-number .ensures, (c .refused .ensures .1 ∙ zeros-tallied k _ ne, (refl, (refused k _ (z .marks .now) ne, (refused k _ (z .increments .now) ne, refused k _ (z .events .now) ne)))))
+returns c = let z = c .before .before .before .before .before .before .before .before .before .before .before .before .before .args in let k = c .refused .result .number in let ne : k ≢ 0 = λ e. c .before .if1 .taken (sym (c .refused .ensures .0) ∙ e) in (c .refused .ensures .0 ∙ c .before .before .array-walk-number .ensures, (c .refused .ensures .1 ∙ zeros-tallied k _ ne, (refl, (refused k _ (z .marks .now) ne, (refused k _ (z .increments .now) ne, refused k _ (z .events .now) ne)))))
 
 search-requires : tie.Need-search-requires
-search-requires c κs = array-begins _ _ _ _ _ (sym (c .before .before .before .before .before .array-walk-number .ensures) ∙ c .before .before .before .before .if1 .left)
+search-requires c κs = array-begins _ _ _ _ _ _ (sym (c .before .before .before .before .before .array-walk-number .ensures) ∙ c .before .before .before .before .if1 .left)
 
 same-length-5 : tie.Need-same-length-5
 same-length-5 c = search needs

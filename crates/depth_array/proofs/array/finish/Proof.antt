@@ -13,34 +13,34 @@ abbrev μ-loop : tie.MeasureT-loop
 μ-loop n m start firsts tails₀ marks₀ increments₀ events₀ q₀ tails marks increments events q = 10000 - q .progress .events
 
 loop-holds : tie.Need-loop-holds Inv-loop μ-loop
-loop-holds c = λ t m i e A. A
+loop-holds c = λ b t m i e A. A
 
 descend-requires : tie.Need-descend-requires Inv-loop μ-loop
 descend-requires c κs = some-onward (c .before .before .before .before .before .before .before .before .before .before .pre) (c .before .before .before .before .loop .inv)
 
 same-length : tie.Need-same-length Inv-loop μ-loop
-same-length c = kept (c .before .before .before .before .before .before .before .before .before .before .before .before .before .before .before .before .before .before .before .before .before .pre) (λ t m i e A. c .before .before .before .before .before .before .before .before .before .before .descend .ensures .0 t m i e (c .before .before .before .before .before .before .before .before .before .before .before .before .before .before .before .loop .inv t m i e A)) .tails-long
+same-length c = kept (c .before .before .before .before .before .before .before .before .before .before .before .before .before .before .before .before .before .before .before .before .before .pre) (λ b t m i e A. c .before .before .before .before .before .before .before .before .before .before .descend .ensures .0 b t m i e (c .before .before .before .before .before .before .before .before .before .before .before .before .before .before .before .loop .inv b t m i e A)) .tails-long
 
 same-length-2 : tie.Need-same-length-2 Inv-loop μ-loop
-same-length-2 c = kept (c .before .before .before .before .before .before .before .before .before .before .before .before .before .before .before .before .before .before .before .before .before .pre) (λ t m i e A. c .before .before .before .before .before .before .before .before .before .before .descend .ensures .0 t m i e (c .before .before .before .before .before .before .before .before .before .before .before .before .before .before .before .loop .inv t m i e A)) .marks-long
+same-length-2 c = kept (c .before .before .before .before .before .before .before .before .before .before .before .before .before .before .before .before .before .before .before .before .before .pre) (λ b t m i e A. c .before .before .before .before .before .before .before .before .before .before .descend .ensures .0 b t m i e (c .before .before .before .before .before .before .before .before .before .before .before .before .before .before .before .loop .inv b t m i e A)) .marks-long
 
 same-length-3 : tie.Need-same-length-3 Inv-loop μ-loop
-same-length-3 c = kept (c .before .before .before .before .before .before .before .before .before .before .before .before .before .before .before .before .before .before .before .before .before .pre) (λ t m i e A. c .before .before .before .before .before .before .before .before .before .before .descend .ensures .0 t m i e (c .before .before .before .before .before .before .before .before .before .before .before .before .before .before .before .loop .inv t m i e A)) .increments-long
+same-length-3 c = kept (c .before .before .before .before .before .before .before .before .before .before .before .before .before .before .before .before .before .before .before .before .before .pre) (λ b t m i e A. c .before .before .before .before .before .before .before .before .before .before .descend .ensures .0 b t m i e (c .before .before .before .before .before .before .before .before .before .before .before .before .before .before .before .loop .inv b t m i e A)) .increments-long
 
 same-length-4 : tie.Need-same-length-4 Inv-loop μ-loop
-same-length-4 c = kept (c .before .before .before .before .before .before .before .before .before .before .before .before .before .before .before .before .before .before .before .before .before .pre) (λ t m i e A. c .before .before .before .before .before .before .before .before .before .before .descend .ensures .0 t m i e (c .before .before .before .before .before .before .before .before .before .before .before .before .before .before .before .loop .inv t m i e A)) .events-long
+same-length-4 c = kept (c .before .before .before .before .before .before .before .before .before .before .before .before .before .before .before .before .before .before .before .before .before .pre) (λ b t m i e A. c .before .before .before .before .before .before .before .before .before .before .descend .ensures .0 b t m i e (c .before .before .before .before .before .before .before .before .before .before .before .before .before .before .before .loop .inv b t m i e A)) .events-long
 
 returns : tie.Need-returns Inv-loop μ-loop
-returns c = ((λ t m i e A. c .before .before .before .before .before .before .before .before .before .before .descend .ensures .0 t m i e (c .before .before .before .before .before .before .before .before .before .before .before .before .before .before .before .loop .inv t m i e A)), (c .before .before .before .before .before .before .before .before .before .before .descend .ensures .1 .0, c .if1 .taken))
+returns c = ((λ b t m i e A. c .before .before .before .before .before .before .before .before .before .before .descend .ensures .0 b t m i e (c .before .before .before .before .before .before .before .before .before .before .before .before .before .before .before .loop .inv b t m i e A)), (c .before .before .before .before .before .before .before .before .before .before .descend .ensures .1 .0, c .if1 .taken))
 
 retreat-requires : tie.Need-retreat-requires Inv-loop μ-loop
-retreat-requires c κs = (some-onward (c .before .before .before .before .before .before .before .before .before .before .before .before .before .before .before .before .before .before .before .before .before .before .before .before .before .pre) (λ t m i e A. c .before .before .before .before .before .before .before .before .before .before .before .before .before .before .descend .ensures .0 t m i e (c .before .before .before .before .before .before .before .before .before .before .before .before .before .before .before .before .before .before .before .loop .inv t m i e A)), c .before .before .before .before .before .before .before .before .before .before .before .before .before .before .descend .ensures .1 .0, c .before .before .before .before .if1 .left)
+retreat-requires c κs = (some-onward (c .before .before .before .before .before .before .before .before .before .before .before .before .before .before .before .before .before .before .before .before .before .before .before .before .before .pre) (λ b t m i e A. c .before .before .before .before .before .before .before .before .before .before .before .before .before .before .descend .ensures .0 b t m i e (c .before .before .before .before .before .before .before .before .before .before .before .before .before .before .before .before .before .before .before .loop .inv b t m i e A)), c .before .before .before .before .before .before .before .before .before .before .before .before .before .before .descend .ensures .1 .0, c .before .before .before .before .if1 .left)
 
 loop-less : tie.Need-loop-less Inv-loop μ-loop
-loop-less c = let b = back (some-onward (c .before .before .before .before .before .before .before .before .before .before .before .before .before .before .before .before .before .before .before .before .before .before .before .before .before .before .before .before .before .before .pre) (λ t m i e A. c .before .before .before .before .before .before .before .before .before .before .before .before .before .before .before .before .before .before .before .descend .ensures .0 t m i e (c .before .before .before .before .before .before .before .before .before .before .before .before .before .before .before .before .before .before .before .before .before .before .before .before .loop .inv t m i e A)) .is) (c .before .before .before .before .before .before .before .before .before .before .before .before .before .before .before .before .before .before .before .descend .ensures .1 .0) (c .before .before .before .before .before .before .before .before .before .if1 .left) in omega (arith, c .before .before .before .before .retreat .ensures .1, c .before .before .before .before .before .before .before .before .before .before .before .before .before .before .before .before .before .before .before .descend .ensures .1 .1)
+loop-less c = let b = back (some-onward (c .before .before .before .before .before .before .before .before .before .before .before .before .before .before .before .before .before .before .before .before .before .before .before .before .before .before .before .before .before .before .pre) (λ b t m i e A. c .before .before .before .before .before .before .before .before .before .before .before .before .before .before .before .before .before .before .before .descend .ensures .0 b t m i e (c .before .before .before .before .before .before .before .before .before .before .before .before .before .before .before .before .before .before .before .before .before .before .before .before .loop .inv b t m i e A)) .is) (c .before .before .before .before .before .before .before .before .before .before .before .before .before .before .before .before .before .before .before .descend .ensures .1 .0) (c .before .before .before .before .before .before .before .before .before .if1 .left) in omega (arith, c .before .before .before .before .retreat .ensures .1, c .before .before .before .before .before .before .before .before .before .before .before .before .before .before .before .before .before .before .before .descend .ensures .1 .1)
 
 loop-again : tie.Need-loop-again Inv-loop μ-loop
-loop-again c = λ t m i e A. c .before .before .before .before .retreat .ensures .0 t m i e (c .before .before .before .before .before .before .before .before .before .before .before .before .before .before .before .before .before .before .before .descend .ensures .0 t m i e (c .before .before .before .before .before .before .before .before .before .before .before .before .before .before .before .before .before .before .before .before .before .before .before .before .loop .inv t m i e A))
+loop-again c = λ b t m i e A. c .before .before .before .before .retreat .ensures .0 b t m i e (c .before .before .before .before .before .before .before .before .before .before .before .before .before .before .before .before .before .before .before .descend .ensures .0 b t m i e (c .before .before .before .before .before .before .before .before .before .before .before .before .before .before .before .before .before .before .before .before .before .before .before .before .loop .inv b t m i e A))
 
 pub finish-spec : {M : Type 1} → statement M
 finish-spec =

@@ -22,11 +22,11 @@ mul-increments c = search needs
 slice-write-increments : tie.Need-slice-write-increments
 slice-write-increments c = search needs
 
-mul-t14 : tie.Need-mul-t14
-mul-t14 c = search needs
+mul-t15 : tie.Need-mul-t15
+mul-t15 c = search needs
 
-shared-slice-read-t23 : tie.Need-shared-slice-read-t23
-shared-slice-read-t23 c = search needs
+shared-slice-read-t24 : tie.Need-shared-slice-read-t24
+shared-slice-read-t24 c = search needs
 
 same-length : tie.Need-same-length
 same-length c = search needs
@@ -38,9 +38,9 @@ same-length-3 : tie.Need-same-length-3
 same-length-3 c = search needs
 
 returns : tie.Need-returns
-returns c = begun (c .before .before .before .before .before .before .before .before .before .before .before .before .before .before .before .before .before .pre) (c .before .before .before .before .before .before .before .before .before .before .clear .ensures) (c .before .before .before .before .before .begin .ensures)
+returns c = begun (c .before .before .before .before .before .before .before .before .before .before .before .before .before .before .before .before .before .before .pre) (c .before .before .before .before .before .before .before .before .before .before .clear .ensures) (c .before .before .before .before .before .begin .ensures)
 
 pub open-spec : {M : Type 1} → statement M
 open-spec =
     tie.close
-    (tie.spec clear-requires add-begin begin-requires sub-first mul-increments slice-write-increments mul-t14 shared-slice-read-t23 same-length same-length-2 same-length-3 returns)
+    (tie.spec clear-requires add-begin begin-requires sub-first mul-increments slice-write-increments mul-t15 shared-slice-read-t24 same-length same-length-2 same-length-3 returns)

@@ -68,7 +68,7 @@ same-length-2 : tie.Need-same-length-2
 same-length-2 c = search needs
 
 returns : tie.Need-returns
-returns c = let z = c .before .before .before .before .before .before .before .before .before .before .before .before .before .before .before .before .before .pre in (λ t m i e A. back-move A (z .1) (z .2) (c .before .before .before .before .before .before .before .before .before .emit .ensures) _ refl (c .before .before .emit2 .ensures), back-words (z .0 .is) (z .1) (z .2) (c .before .before .before .before .before .before .before .before .before .emit .ensures) _ refl (c .before .before .emit2 .ensures))
+returns c = let z = c .before .before .before .before .before .before .before .before .before .before .before .before .before .before .before .before .before .pre in (λ b t m i e A. back-move A (z .1) (z .2) (c .before .before .before .before .before .before .before .before .before .emit .ensures) _ refl (c .before .before .emit2 .ensures), back-words (z .0 .is) (z .1) (z .2) (c .before .before .before .before .before .before .before .before .before .emit .ensures) _ refl (c .before .before .emit2 .ensures))
 
 pub retreat-spec : {M : Type 1} → statement M
 retreat-spec =

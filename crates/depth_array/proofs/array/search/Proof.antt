@@ -26,7 +26,7 @@ same-length-4 : tie.Need-same-length-4
 same-length-4 c = search needs
 
 returns : tie.Need-returns
-returns c = ended (c .before .before .before .before .before .before .before .before .before .before .before .before .before .before .finish .ensures .0 _ _ _ _ (c .before .before .before .before .before .before .before .before .before .before .before .before .before .before .before .before .before .before .before .before .before .before .before .before .before .«open» .ensures)) (c .before .before .before .before .before .before .before .before .before .before .before .before .before .before .finish .ensures .1 .0) (c .before .before .before .before .before .before .before .before .before .before .before .before .before .before .finish .ensures .1 .1) (c .before .before .before .emit .ensures) (c .tally .ensures)
+returns c = ended (c .before .before .before .before .before .before .before .before .before .before .before .before .before .before .finish .ensures .0 _ _ _ _ _ (c .before .before .before .before .before .before .before .before .before .before .before .before .before .before .before .before .before .before .before .before .before .before .before .before .before .«open» .ensures)) (c .before .before .before .before .before .before .before .before .before .before .before .before .before .before .finish .ensures .1 .0) (c .before .before .before .before .before .before .before .before .before .before .before .before .before .before .finish .ensures .1 .1) (c .before .before .before .emit .ensures) (c .tally .ensures)
 
 tally-requires : tie.Need-tally-requires
 tally-requires c κs = search needs

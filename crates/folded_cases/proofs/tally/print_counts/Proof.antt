@@ -5,10 +5,10 @@ use Rattle.folded_cases.proofs.tally.print_counts.Statement.{statement}
 use Rattle.folded_cases.proofs.tally.print_counts.Tie as tie
 
 abbrev Inv-loop : tie.InvT-loop
-Inv-loop name d i₀ t5 t6 i = i ≤ 17
+Inv-loop name d i₀ t5 i = i ≤ 35
 
 abbrev μ-loop : tie.MeasureT-loop
-μ-loop name d i₀ t5 t6 i = 17 - i
+μ-loop name d i₀ t5 i = 35 - i
 
 pub print-counts-spec : {M : Type 1} → statement M
-print-counts-spec = tie.close (tie.spec Inv-loop μ-loop (search needs) (search needs) (search needs) (search needs) (search needs) (search needs) (search needs) (search needs) (search needs) (search needs) (search needs) (search needs) (search needs) (search needs))
+print-counts-spec = tie.close (tie.spec Inv-loop μ-loop (search needs) (search needs) (search needs) (search needs) (search needs) (search needs) (search needs) (search needs) (search needs) (search needs) (search needs) (search needs))

@@ -25,8 +25,8 @@ same-length-3 c = search needs
 
 returns : tie.Need-returns
 returns c =
-    let a = c .before .before .before .before .before .before .before .before .before .before .args in
-    let k = walk-short (image (a .n) (a .m) (a .after .now) (a .tail .now)) (a .start) (a .marks .now) (a .events .now) [] (a .counts .now) (c .walk-number .ensures) (c .before .before .before .before .if1 .taken) in
+    let a = c .before .before .before .before .before .before .before .before .before .before .before .args in
+    let k = walk-short (image (a .n) (a .m) (a .after .now) (a .tail .now)) (a .before .now) (a .start) (a .marks .now) (a .events .now) [] (a .counts .now) (c .walk-number .ensures) (c .before .before .before .before .if1 .taken) in
     (k .0, (refused _ _ (a .counts .now) (k .1), (refl, (refused _ _ (a .marks .now) (k .1), refused _ _ (a .events .now) (k .1)))))
 
 bfs-folded-requires : tie.Need-bfs-folded-requires
@@ -43,9 +43,9 @@ same-length-6 c = search needs
 
 returns-2 : tie.Need-returns-2
 returns-2 c =
-    let a = c .before .before .before .before .before .before .before .before .before .before .before .before .before .before .before .before .before .args in
+    let a = c .before .before .before .before .before .before .before .before .before .before .before .before .before .before .before .before .before .before .args in
     let e = c .before .before .before .before .before .before .before .bfs-folded .ensures in
-    let is = e .0 ∙ walk-long (image (a .n) (a .m) (a .after .now) (a .tail .now)) (a .start) (a .marks .now) (a .events .now) [] (a .counts .now) (c .before .before .before .before .before .before .before .before .before .before .before .if1 .left) in
+    let is = e .0 ∙ walk-long (image (a .n) (a .m) (a .after .now) (a .tail .now)) (a .before .now) (a .start) (a .marks .now) (a .events .now) [] (a .counts .now) (c .before .before .before .before .before .before .before .before .before .before .before .if1 .left) in
     (is, (refused _ _ (a .counts .now) (c .if2 .taken), e .1 .1))
 
 write-tally-requires : tie.Need-write-tally-requires
@@ -65,10 +65,10 @@ same-length-10 c = search needs
 
 returns-3 : tie.Need-returns-3
 returns-3 c =
-    let a = c .before .before .before .before .before .before .before .before .before .before .before .before .before .before .before .before .before .before .before .before .before .before .args in
+    let a = c .before .before .before .before .before .before .before .before .before .before .before .before .before .before .before .before .before .before .before .before .before .before .before .args in
     let e = c .before .before .before .before .before .before .before .before .before .before .before .before .bfs-folded .ensures in
     let z = c .before .before .before .before .before .if2 .left in
-    let is = e .0 ∙ walk-long (image (a .n) (a .m) (a .after .now) (a .tail .now)) (a .start) (a .marks .now) (a .events .now) [] (a .counts .now) (c .before .before .before .before .before .before .before .before .before .before .before .before .before .before .before .before .if1 .left) in
+    let is = e .0 ∙ walk-long (image (a .n) (a .m) (a .after .now) (a .tail .now)) (a .before .now) (a .start) (a .marks .now) (a .events .now) [] (a .counts .now) (c .before .before .before .before .before .before .before .before .before .before .before .before .before .before .before .before .if1 .left) in
     (sym z ∙ is, (c .before .before .write-tally .ensures ∙ ap (λ (t : List ℕ). overlay t (a .counts .now)) (rw z at (e .1 .0)), rw z at (e .1 .1)))
 
 pub profile-walker-bfs-folded-spec : {M : Type 1} → statement M

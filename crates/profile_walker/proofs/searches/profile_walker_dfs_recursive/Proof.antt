@@ -24,8 +24,8 @@ same-length-2 c = search needs
 
 returns : tie.Need-returns
 returns c =
-    let a = c .before .before .before .before .before .before .before .before .before .args in
-    let k = walk-short (image (a .n) (a .m) (a .after .now) (a .tail .now)) (a .start) (a .marks .now) (a .events .now) [] (a .counts .now) (c .walk-number .ensures) (c .before .before .before .if1 .taken) in
+    let a = c .before .before .before .before .before .before .before .before .before .before .args in
+    let k = walk-short (image (a .n) (a .m) (a .after .now) (a .tail .now)) (a .before .now) (a .start) (a .marks .now) (a .events .now) [] (a .counts .now) (c .walk-number .ensures) (c .before .before .before .if1 .taken) in
     (k .0, (refused _ _ (a .counts .now) (k .1), (refused _ _ (a .marks .now) (k .1), refused _ _ (a .events .now) (k .1))))
 
 dfs-recursive-requires : tie.Need-dfs-recursive-requires
@@ -39,9 +39,9 @@ same-length-4 c = search needs
 
 returns-2 : tie.Need-returns-2
 returns-2 c =
-    let a = c .before .before .before .before .before .before .before .before .before .before .before .before .before .before .args in
+    let a = c .before .before .before .before .before .before .before .before .before .before .before .before .before .before .before .args in
     let e = c .before .before .before .before .before .dfs-recursive .ensures in
-    let is = e .0 ∙ walk-long (image (a .n) (a .m) (a .after .now) (a .tail .now)) (a .start) (a .marks .now) (a .events .now) [] (a .counts .now) (c .before .before .before .before .before .before .before .before .if1 .left) in
+    let is = e .0 ∙ walk-long (image (a .n) (a .m) (a .after .now) (a .tail .now)) (a .before .now) (a .start) (a .marks .now) (a .events .now) [] (a .counts .now) (c .before .before .before .before .before .before .before .before .if1 .left) in
     (is, (refused _ _ (a .counts .now) (c .if2 .taken), e .1 .1))
 
 write-tally-requires : tie.Need-write-tally-requires
@@ -58,10 +58,10 @@ same-length-7 c = search needs
 
 returns-3 : tie.Need-returns-3
 returns-3 c =
-    let a = c .before .before .before .before .before .before .before .before .before .before .before .before .before .before .before .before .before .before .before .args in
+    let a = c .before .before .before .before .before .before .before .before .before .before .before .before .before .before .before .before .before .before .before .before .args in
     let e = c .before .before .before .before .before .before .before .before .before .before .dfs-recursive .ensures in
     let z = c .before .before .before .before .before .if2 .left in
-    let is = e .0 ∙ walk-long (image (a .n) (a .m) (a .after .now) (a .tail .now)) (a .start) (a .marks .now) (a .events .now) [] (a .counts .now) (c .before .before .before .before .before .before .before .before .before .before .before .before .before .if1 .left) in
+    let is = e .0 ∙ walk-long (image (a .n) (a .m) (a .after .now) (a .tail .now)) (a .before .now) (a .start) (a .marks .now) (a .events .now) [] (a .counts .now) (c .before .before .before .before .before .before .before .before .before .before .before .before .before .if1 .left) in
     (sym z ∙ is, (c .before .before .write-tally .ensures ∙ ap (λ (t : List ℕ). overlay t (a .counts .now)) (rw z at (e .1 .0)), rw z at (e .1 .1)))
 
 pub profile-walker-dfs-recursive-spec : {M : Type 1} → statement M

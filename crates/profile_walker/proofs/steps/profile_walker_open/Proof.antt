@@ -16,8 +16,8 @@ search-number-requires c κs = search needs
 
 returns : tie.Need-returns
 returns c =
-    let a = c .before .before .before .before .before .before .before .args in
-    let k = open-short (image (a .n) (a .m) (a .after .now) (a .tail .now)) (a .start) (a .marks .now) (a .events .now) (a .state .now) (c .search-number .ensures) (c .before .if1 .taken) in
+    let a = c .before .before .before .before .before .before .before .before .args in
+    let k = open-short (image (a .n) (a .m) (a .after .now) (a .tail .now)) (a .before .now) (a .start) (a .marks .now) (a .events .now) (a .state .now) (c .search-number .ensures) (c .before .if1 .taken) in
     (k .0, (refused _ _ (a .state .now) (k .1), (refused _ _ (a .marks .now) (k .1), refused _ _ (a .events .now) (k .1))))
 
 open-requires : tie.Need-open-requires
@@ -34,8 +34,8 @@ same-length-2 c = search needs
 
 returns-2 : tie.Need-returns-2
 returns-2 c =
-    let a = c .before .before .before .before .before .before .before .before .before .before .before .before .before .before .before .args in
-    let o = opened (image (a .n) (a .m) (a .after .now) (a .tail .now)) (a .start) (a .marks .now) (a .events .now) (a .state .now) (c .before .before .before .before .before .before .«open» .ensures) (c .before .number-in .ensures) (c .before .before .before .before .before .before .before .before .before .if1 .left) in
+    let a = c .before .before .before .before .before .before .before .before .before .before .before .before .before .before .before .before .args in
+    let o = opened (image (a .n) (a .m) (a .after .now) (a .tail .now)) (a .before .now) (a .start) (a .marks .now) (a .events .now) (a .state .now) (c .before .before .before .before .before .before .«open» .ensures) (c .before .number-in .ensures) (c .before .before .before .before .before .before .before .before .before .if1 .left) in
     (o .0, (refused _ _ (a .state .now) (c .if2 .taken), (o .1 .marks-left, o .1 .events-left)))
 
 write-state-requires : tie.Need-write-state-requires
@@ -52,8 +52,8 @@ same-length-5 c = search needs
 
 returns-3 : tie.Need-returns-3
 returns-3 c =
-    let a = c .before .before .before .before .before .before .before .before .before .before .before .before .before .before .before .before .before .before .before .before .args in
-    let o = opened (image (a .n) (a .m) (a .after .now) (a .tail .now)) (a .start) (a .marks .now) (a .events .now) (a .state .now) (c .before .before .before .before .before .before .before .before .before .before .before .«open» .ensures) (c .before .before .before .before .before .before .number-in .ensures) (c .before .before .before .before .before .before .before .before .before .before .before .before .before .before .if1 .left) in
+    let a = c .before .before .before .before .before .before .before .before .before .before .before .before .before .before .before .before .before .before .before .before .before .args in
+    let o = opened (image (a .n) (a .m) (a .after .now) (a .tail .now)) (a .before .now) (a .start) (a .marks .now) (a .events .now) (a .state .now) (c .before .before .before .before .before .before .before .before .before .before .before .«open» .ensures) (c .before .before .before .before .before .before .number-in .ensures) (c .before .before .before .before .before .before .before .before .before .before .before .before .before .before .if1 .left) in
     let z = c .before .before .before .before .before .if2 .left in
     (sym z ∙ o .0, (c .before .before .write-state .ensures ∙ ap (λ (w : Config). overlay (configWords w) (a .state .now)) (o .1 .state-left z), (rw z at (o .1 .marks-left), rw z at (o .1 .events-left))))
 

@@ -6,16 +6,12 @@ use Rattle.images.specs.Checking.{image}
 use Rattle.scripts.proofs.Played.{Going, so-far, none-made, playing, next-played, last-played}
 use Rattle.scripts.proofs.play.replay.Statement.{statement}
 use Rattle.scripts.proofs.play.replay.Tie as tie
-use Rattle.scripts.proofs.play.replay.Reads as reads
-use Rattle.scripts.proofs.play.replay.Lts as lts
-use Rattle.scripts.proofs.play.perform.Reads as perform-reads
-use Rattle.states.proofs.open.Reads as open-reads
 
 abbrev Inv-loop : tie.InvT-loop
-Inv-loop n m after₀ tail₀ marks₀ events₀ script p₀ at₀ after tail marks events p at = Going script at₀ p₀ after₀ tail₀ marks₀ events₀ at p after tail marks events
+Inv-loop n m after₀ tail₀ before marks₀ events₀ script p₀ at₀ after tail marks events p at = Going script at₀ p₀ after₀ tail₀ marks₀ events₀ at p after tail marks events
 
 abbrev μ-loop : tie.MeasureT-loop
-μ-loop n m after₀ tail₀ marks₀ events₀ script p₀ at₀ after tail marks events p at = length script - at
+μ-loop n m after₀ tail₀ before marks₀ events₀ script p₀ at₀ after tail marks events p at = length script - at
 
 open-requires : tie.Need-open-requires Inv-loop μ-loop
 open-requires c κs = search needs
@@ -33,7 +29,7 @@ same-length-4 : tie.Need-same-length-4 Inv-loop μ-loop
 same-length-4 c = search needs
 
 returns : tie.Need-returns Inv-loop μ-loop
-returns c = let z = c .before .before .before .before .before .before .before .before .before .before .before .before .before .before .before .before .args in none-made (image (z .n) (z .m) (z .after .now) (z .tail .now)) (z .start .0) (z .marks .now) (z .events .now) (z .script .now) (c .before .before .before .before .before .before .«open» .result) (c .before .before .before .before .before .before .«open» .ensures) (c .if1 .taken)
+returns c = let z = c .before .before .before .before .before .before .before .before .before .before .before .before .before .before .before .before .before .args in none-made (image (z .n) (z .m) (z .after .now) (z .tail .now)) (z .before .now) (z .start .0) (z .marks .now) (z .events .now) (z .script .now) (c .before .before .before .before .before .before .«open» .result) (c .before .before .before .before .before .before .«open» .ensures) (c .if1 .taken)
 
 loop-holds : tie.Need-loop-holds Inv-loop μ-loop
 loop-holds c = search needs
@@ -42,40 +38,40 @@ sub-loop : tie.Need-sub-loop Inv-loop μ-loop
 sub-loop c = search needs
 
 mul-perform : tie.Need-mul-perform Inv-loop μ-loop
-mul-perform c = omega (arith, c .before .before .before .before .before .before .before .before .before .before .before .before .before .before .before .before .before .before .good)
+mul-perform c = omega (arith, c .before .before .before .before .before .before .before .before .before .before .before .before .before .before .before .before .before .before .before .good)
 
 shared-slice-read-perform : tie.Need-shared-slice-read-perform Inv-loop μ-loop
 shared-slice-read-perform c = search needs
 
 add-perform : tie.Need-add-perform Inv-loop μ-loop
-add-perform c = omega (arith, c .before .before .before .before .before .before .before .before .before .before .before .before .before .before .before .before .before .before .before .good)
+add-perform c = omega (arith, c .before .before .before .before .before .before .before .before .before .before .before .before .before .before .before .before .before .before .before .before .good)
 
 mul-perform-2 : tie.Need-mul-perform-2 Inv-loop μ-loop
-mul-perform-2 c = omega (arith, c .before .before .before .before .before .before .before .before .before .before .before .before .before .before .before .before .before .before .before .good)
+mul-perform-2 c = omega (arith, c .before .before .before .before .before .before .before .before .before .before .before .before .before .before .before .before .before .before .before .before .good)
 
 shared-slice-read-perform-2 : tie.Need-shared-slice-read-perform-2 Inv-loop μ-loop
 shared-slice-read-perform-2 c = search needs
 
 add-perform-2 : tie.Need-add-perform-2 Inv-loop μ-loop
-add-perform-2 c = omega (arith, c .before .before .before .before .before .before .before .before .before .before .before .before .before .before .before .before .before .before .before .before .good)
+add-perform-2 c = omega (arith, c .before .before .before .before .before .before .before .before .before .before .before .before .before .before .before .before .before .before .before .before .before .good)
 
 mul-perform-3 : tie.Need-mul-perform-3 Inv-loop μ-loop
-mul-perform-3 c = omega (arith, c .before .before .before .before .before .before .before .before .before .before .before .before .before .before .before .before .before .before .before .before .good)
+mul-perform-3 c = omega (arith, c .before .before .before .before .before .before .before .before .before .before .before .before .before .before .before .before .before .before .before .before .before .good)
 
 shared-slice-read-perform-3 : tie.Need-shared-slice-read-perform-3 Inv-loop μ-loop
 shared-slice-read-perform-3 c = search needs
 
 perform-requires : tie.Need-perform-requires Inv-loop μ-loop
-perform-requires c κs = let z = c .before .before .before .before .before .before .before .before .before .before .before .before .before .before .before .before .before .before .before .before .before .before .before .before .before .args in playing (so-far (image (z .n) (z .m) (z .after .now) (z .tail .now)) (z .start .0) (z .marks .now) (z .events .now) (c .before .before .before .before .before .before .before .before .loop .inv) (c .before .before .before .before .before .before .before .before .before .before .before .before .before .before .before .«open» .ensures) (c .before .before .before .before .before .before .before .before .before .if1 .left))
+perform-requires c κs = let z = c .before .before .before .before .before .before .before .before .before .before .before .before .before .before .before .before .before .before .before .before .before .before .before .before .before .before .args in playing (so-far (image (z .n) (z .m) (z .after .now) (z .tail .now)) (z .before .now) (z .start .0) (z .marks .now) (z .events .now) (c .before .before .before .before .before .before .before .before .loop .inv) (c .before .before .before .before .before .before .before .before .before .before .before .before .before .before .before .«open» .ensures) (c .before .before .before .before .before .before .before .before .before .if1 .left))
 
 add-at : tie.Need-add-at Inv-loop μ-loop
-add-at c = omega (arith, c .before .before .before .before .before .before .before .before .before .before .before .before .before .before .before .before .before .before .before .before .before .before .before .before .before .before .before .before .before .before .before .before .before .before .good)
+add-at c = omega (arith, c .before .before .before .before .before .before .before .before .before .before .before .before .before .before .before .before .before .before .before .before .before .before .before .before .before .before .before .before .before .before .before .before .before .before .before .good)
 
 loop-less : tie.Need-loop-less Inv-loop μ-loop
 loop-less c = search needs
 
 loop-again : tie.Need-loop-again Inv-loop μ-loop
-loop-again c = let l = c .before .before .before .before .before .before .before .before .before .before .before .before .before .before .before .before .before .loop .inv in record { place = omega (arith, l .place, c .before .before .before .before .before .before .before .before .before .before .before .before .before .before .before .before .loop-test .taken); same-after = omega (arith, l .same-after); same-tail = omega (arith, l .same-tail); same-marks = omega (arith, l .same-marks); same-now = omega (arith, l .same-now); goes = λ g start old area P. next-played (l .goes g start old area P) (c .before .before .before .before .before .before .before .before .before .before .before .before .before .before .before .before .loop-test .taken) (c .before .before .before .before .before .before .before .before .perform .ensures) }
+loop-again c = let l = c .before .before .before .before .before .before .before .before .before .before .before .before .before .before .before .before .before .loop .inv in record { place = omega (arith, l .place, c .before .before .before .before .before .before .before .before .before .before .before .before .before .before .before .before .loop-test .taken); same-after = omega (arith, l .same-after); same-tail = omega (arith, l .same-tail); same-marks = omega (arith, l .same-marks); same-now = omega (arith, l .same-now); goes = λ g before start old area P. next-played (l .goes g before start old area P) (c .before .before .before .before .before .before .before .before .before .before .before .before .before .before .before .before .loop-test .taken) (c .before .before .before .before .before .before .before .before .perform .ensures) }
 
 same-length-5 : tie.Need-same-length-5 Inv-loop μ-loop
 same-length-5 c = search needs
@@ -90,7 +86,7 @@ same-length-8 : tie.Need-same-length-8 Inv-loop μ-loop
 same-length-8 c = search needs
 
 returns-2 : tie.Need-returns-2 Inv-loop μ-loop
-returns-2 c = let z = c .before .before .before .before .before .before .before .before .before .before .before .before .before .before .before .before .before .before .args in last-played (so-far (image (z .n) (z .m) (z .after .now) (z .tail .now)) (z .start .0) (z .marks .now) (z .events .now) (c .before .loop .inv) (c .before .before .before .before .before .before .before .before .«open» .ensures) (c .before .before .if1 .left)) (c .loop-test .left)
+returns-2 c = let z = c .before .before .before .before .before .before .before .before .before .before .before .before .before .before .before .before .before .before .before .args in last-played (so-far (image (z .n) (z .m) (z .after .now) (z .tail .now)) (z .before .now) (z .start .0) (z .marks .now) (z .events .now) (c .before .loop .inv) (c .before .before .before .before .before .before .before .before .«open» .ensures) (c .before .before .if1 .left)) (c .loop-test .left)
 
 pub replay-spec : {M : Type 1} → statement M
 replay-spec =

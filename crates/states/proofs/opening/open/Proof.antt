@@ -13,83 +13,60 @@ use Rattle.folding.specs.Machine.{Config}
 use borrow.Author.Needs.{needs}
 use Rattle.states.proofs.opening.open.Statement.{statement}
 use Rattle.states.proofs.opening.open.Tie as tie
-use Rattle.states.proofs.opening.open.Reads as reads
-use Rattle.states.proofs.opening.open.Lts as lts
-use Rattle.states.proofs.opening.is_long.Reads as is-long-reads
-use Rattle.states.proofs.opening.no_state.Reads as no-state-reads
-use Rattle.states.proofs.values.refused.Reads as refused-reads
-use Rattle.walks.proofs.depth.begin.Reads as begin-reads
-use Rattle.walks.proofs.search_number.Reads as search-number-reads
 
--- src/opening.rt:60:17
 add-nodes : tie.Need-add-nodes
 add-nodes c = search needs
 
--- src/opening.rt:61:9
 is-long-requires : tie.Need-is-long-requires
 is-long-requires c κs = search needs
 
--- src/opening.rt:62:9
 search-number-requires : tie.Need-search-number-requires
 search-number-requires c κs = search needs
 
--- src/opening.rt:64:27
 no-state-requires : tie.Need-no-state-requires
 no-state-requires c κs = search needs
 
--- src/opening.rt:64:9
 refused-requires : tie.Need-refused-requires
 refused-requires c κs = search needs
 
--- src/opening.rt:64:9
 returns : tie.Need-returns
-returns c = let z = c .before .before .before .before .before .before .before .before .before .args in let g = image (z .n) (z .m) (z .after .now) (z .tail .now) in let e = c .before .before .before .search-number .ensures (lent (z .n + z .m) (z .marks .now) ∷ lent 3 (z .events .now) ∷ []) (c .before .before .before .before .is-long .ensures ∙ more-lent (z .n + z .m) (z .marks .now) (lent 3 (z .events .now) ∷ []) _ (own-test 3 (z .events .now))) in
-    c .refused .ensures (z .after .now) (z .tail .now) (z .marks .now) (z .events .now) ∙ ap (λ (w : Config). seenOf (refusing (c .before .before .before .search-number .result) w (z .events .now))) (c .before .no-state .ensures (z .after .now) (z .tail .now) (z .marks .now)) ∙ ap seenOf (sym (open-refused g (z .start .0) (z .marks .now) (z .events .now) e (c .before .before .if1 .taken)))
+returns c = let z = c .before .before .before .before .before .before .before .before .before .before .args in let g = image (z .n) (z .m) (z .after .now) (z .tail .now) in let e = c .before .before .before .search-number .ensures (lent (z .n + z .m) (z .marks .now) ∷ lent 3 (z .events .now) ∷ []) (c .before .before .before .before .is-long .ensures ∙ more-lent (z .n + z .m) (z .marks .now) (lent 3 (z .events .now) ∷ []) _ (own-test 3 (z .events .now))) in
+    c .refused .ensures (z .after .now) (z .tail .now) (z .marks .now) (z .events .now) ∙ ap (λ (w : Config). seenOf (refusing (c .before .before .before .search-number .result) w (z .events .now))) (c .before .no-state .ensures (z .after .now) (z .tail .now) (z .marks .now)) ∙ ap seenOf (sym (open-refused g (z .before .now) (z .start .0) (z .marks .now) (z .events .now) e (c .before .before .if1 .taken)))
 
--- src/opening.rt:66:5
 begin-requires : tie.Need-begin-requires
 begin-requires c κs = search needs
 
--- src/opening.rt:67:13
 cast-i : tie.Need-cast-i
 cast-i c = search needs
 
--- src/opening.rt:67:13
 sub-i : tie.Need-sub-i
-sub-i c = let z = c .before .before .before .before .before .before .before .before .before .before .before .before .before .before .args in let O = opens (image (z .n) (z .m) (z .after .now) (z .tail .now)) (z .start .0) (z .marks .now) (z .events .now) (c .before .before .before .before .before .before .before .before .search-number .ensures (lent (z .n + z .m) (z .marks .now) ∷ lent 3 (z .events .now) ∷ []) (c .before .before .before .before .before .before .before .before .before .is-long .ensures ∙ more-lent (z .n + z .m) (z .marks .now) (lent 3 (z .events .now) ∷ []) _ (own-test 3 (z .events .now)))) (c .before .before .before .before .before .before .before .if1 .left) in let x = O .start-vertex in omega arith
+sub-i c = let z = c .before .before .before .before .before .before .before .before .before .before .before .before .before .before .before .args in let O = opens (image (z .n) (z .m) (z .after .now) (z .tail .now)) (z .before .now) (z .start .0) (z .marks .now) (z .events .now) (c .before .before .before .before .before .before .before .before .search-number .ensures (lent (z .n + z .m) (z .marks .now) ∷ lent 3 (z .events .now) ∷ []) (c .before .before .before .before .before .before .before .before .before .is-long .ensures ∙ more-lent (z .n + z .m) (z .marks .now) (lent 3 (z .events .now) ∷ []) _ (own-test 3 (z .events .now)))) (c .before .before .before .before .before .before .before .if1 .left) in let x = O .start-vertex in omega arith
 
--- src/opening.rt:68:5
 mul-marks : tie.Need-mul-marks
 mul-marks c = search needs
 
--- src/opening.rt:68:5
 slice-write-marks : tie.Need-slice-write-marks
-slice-write-marks c = let z = c .before .before .before .before .before .before .before .before .before .before .before .before .before .before .args in let O = opens (image (z .n) (z .m) (z .after .now) (z .tail .now)) (z .start .0) (z .marks .now) (z .events .now) (c .before .before .before .before .before .before .before .before .search-number .ensures (lent (z .n + z .m) (z .marks .now) ∷ lent 3 (z .events .now) ∷ []) (c .before .before .before .before .before .before .before .before .before .is-long .ensures ∙ more-lent (z .n + z .m) (z .marks .now) (lent 3 (z .events .now) ∷ []) _ (own-test 3 (z .events .now)))) (c .before .before .before .before .before .before .before .if1 .left) in let x = O .start-vertex in omega (arith, O .long-marks)
+slice-write-marks c = let z = c .before .before .before .before .before .before .before .before .before .before .before .before .before .before .before .args in let O = opens (image (z .n) (z .m) (z .after .now) (z .tail .now)) (z .before .now) (z .start .0) (z .marks .now) (z .events .now) (c .before .before .before .before .before .before .before .before .search-number .ensures (lent (z .n + z .m) (z .marks .now) ∷ lent 3 (z .events .now) ∷ []) (c .before .before .before .before .before .before .before .before .before .is-long .ensures ∙ more-lent (z .n + z .m) (z .marks .now) (lent 3 (z .events .now) ∷ []) _ (own-test 3 (z .events .now)))) (c .before .before .before .before .before .before .before .if1 .left) in let x = O .start-vertex in omega (arith, O .long-marks)
 
--- src/opening.rt:69:18
-mul-t15 : tie.Need-mul-t15
-mul-t15 c = search needs
+mul-t16 : tie.Need-mul-t16
+mul-t16 c = search needs
 
--- src/opening.rt:69:18
-shared-slice-read-t26 : tie.Need-shared-slice-read-t26
-shared-slice-read-t26 c = let z = c .before .before .before .before .before .before .before .before .before .before .before .before .before .before .before .args in let O = opens (image (z .n) (z .m) (z .after .now) (z .tail .now)) (z .start .0) (z .marks .now) (z .events .now) (c .before .before .before .before .before .before .before .before .before .search-number .ensures (lent (z .n + z .m) (z .marks .now) ∷ lent 3 (z .events .now) ∷ []) (c .before .before .before .before .before .before .before .before .before .before .is-long .ensures ∙ more-lent (z .n + z .m) (z .marks .now) (lent 3 (z .events .now) ∷ []) _ (own-test 3 (z .events .now)))) (c .before .before .before .before .before .before .before .before .if1 .left) in let x = O .start-vertex in omega (arith, O .long-after)
+shared-slice-read-t27 : tie.Need-shared-slice-read-t27
+shared-slice-read-t27 c = let z = c .before .before .before .before .before .before .before .before .before .before .before .before .before .before .before .before .args in let O = opens (image (z .n) (z .m) (z .after .now) (z .tail .now)) (z .before .now) (z .start .0) (z .marks .now) (z .events .now) (c .before .before .before .before .before .before .before .before .before .search-number .ensures (lent (z .n + z .m) (z .marks .now) ∷ lent 3 (z .events .now) ∷ []) (c .before .before .before .before .before .before .before .before .before .before .is-long .ensures ∙ more-lent (z .n + z .m) (z .marks .now) (lent 3 (z .events .now) ∷ []) _ (own-test 3 (z .events .now)))) (c .before .before .before .before .before .before .before .before .if1 .left) in let x = O .start-vertex in omega (arith, O .long-after)
 
--- src/opening.rt:48:1
 same-length : tie.Need-same-length
 same-length c = search needs
 
--- src/opening.rt:48:1
 same-length-2 : tie.Need-same-length-2
 same-length-2 c = search needs
 
--- src/opening.rt:48:1
 returns-2 : tie.Need-returns-2
 unfolding at put
-returns-2 c = let z = c .before .before .before .before .before .before .before .before .before .before .before .before .before .before .before .args in let g = image (z .n) (z .m) (z .after .now) (z .tail .now) in let e = c .before .before .before .before .before .before .before .before .before .search-number .ensures (lent (z .n + z .m) (z .marks .now) ∷ lent 3 (z .events .now) ∷ []) (c .before .before .before .before .before .before .before .before .before .before .is-long .ensures ∙ more-lent (z .n + z .m) (z .marks .now) (lent 3 (z .events .now) ∷ []) _ (own-test 3 (z .events .now))) in
+returns-2 c = let z = c .before .before .before .before .before .before .before .before .before .before .before .before .before .before .before .before .args in let g = image (z .n) (z .m) (z .after .now) (z .tail .now) in let e = c .before .before .before .before .before .before .before .before .before .search-number .ensures (lent (z .n + z .m) (z .marks .now) ∷ lent 3 (z .events .now) ∷ []) (c .before .before .before .before .before .before .before .before .before .before .is-long .ensures ∙ more-lent (z .n + z .m) (z .marks .now) (lent 3 (z .events .now) ∷ []) _ (own-test 3 (z .events .now))) in
     let B = c .before .before .before .before .before .begin .ensures in
-    let A = opened g (z .start .0) (z .marks .now) (z .events .now) e (c .before .before .before .before .before .before .before .before .if1 .left) (B .0, (B .1 .0, B .1 .1)) in
+    let A = opened g (z .before .now) (z .start .0) (z .marks .now) (z .events .now) e (c .before .before .before .before .before .before .before .before .if1 .left) (B .0, (B .1 .0, B .1 .1)) in
     (λ i. record { answer = taken; steps = 0; count = 1; config = record { n = z .n; m = z .m; start = z .start .0; v = z .start .0; e = at 0 (z .after .now) (z .start .0); f = 0; phase = 1; next = 2; circular = 0; after = z .after .now; tail = z .tail .now; marks = A .0 i }; area = A .1 i })
-    ∙ ap seenOf (sym (open-taken g (z .start .0) (z .marks .now) (z .events .now) e (c .before .before .before .before .before .before .before .before .if1 .left)))
+    ∙ ap seenOf (sym (open-taken g (z .before .now) (z .start .0) (z .marks .now) (z .events .now) e (c .before .before .before .before .before .before .before .before .if1 .left)))
 
 pub open-spec : {M : Type 1} → statement M
 open-spec =
@@ -106,8 +83,8 @@ open-spec =
     sub-i
     mul-marks
     slice-write-marks
-    mul-t15
-    shared-slice-read-t26
+    mul-t16
+    shared-slice-read-t27
     same-length
     same-length-2
     returns-2)

@@ -5,10 +5,10 @@ use Rattle.walk_cases.proofs.tally.print_counts.Statement.{statement}
 use Rattle.walk_cases.proofs.tally.print_counts.Tie as tie
 
 abbrev Inv-loop : tie.InvT-loop
-Inv-loop name of d i₀ t6 t7 i = i ≤ 10
+Inv-loop name of d i₀ t6 t7 i = i ≤ 28
 
 abbrev μ-loop : tie.MeasureT-loop
-μ-loop name of d i₀ t6 t7 i = 10 - i
+μ-loop name of d i₀ t6 t7 i = 28 - i
 
 pub print-counts-spec : {M : Type 1} → statement M
 print-counts-spec = tie.close (tie.spec Inv-loop μ-loop (search needs) (search needs) (search needs) (search needs) (search needs) (search needs) (search needs) (search needs) (search needs) (search needs) (search needs) (search needs) (search needs) (search needs) (search needs))
