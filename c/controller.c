@@ -1,13 +1,18 @@
 /*
- * A small line controller: it loads one profile and writes three cards from it.
+ * A small line controller: it loads one profile and writes four cards from it.
  *
  * Card 1 meets a jam after every move, and each time the operator lets it go on. Card 2 is wound back after three
- * moves, so that the next card is written from links as loaded. Card 3 is written by one run and accepted.
+ * moves, so that the next card is written from links as loaded. Card 3 is written by one run and accepted. Card 4 is
+ * written on a blank that element 3 is on already; it is wound back once, then written by one run and accepted.
  */
 #include <stdio.h>
 #include <string.h>
 
 #include "profile_walker.h"
+
+#if PROFILE_WALKER_VERSION != 2
+#error "these calls are those of version 2 of profile_walker.h"
+#endif
 
 static const char profile_text[] =
     "elements,references,start\n"
@@ -23,6 +28,10 @@ static uint16_t n, m, start;
 static uint16_t after[PROFILE_WALKER_MAX_N + PROFILE_WALKER_MAX_M];
 static uint16_t tail[PROFILE_WALKER_MAX_M];
 static uint16_t marks[PROFILE_WALKER_MAX_N + PROFILE_WALKER_MAX_M];
+
+/* The elements already on the blank. The area is lent, with length 0, also where there are none. */
+static uint16_t before[PROFILE_WALKER_MAX_N];
+static size_t before_words;
 
 /* The links as loaded, to show that they come back. */
 static uint16_t loaded_after[PROFILE_WALKER_MAX_N + PROFILE_WALKER_MAX_M];
@@ -83,6 +92,17 @@ static void print_tails(const char *when)
     printf("\n");
 }
 
+static void print_marks(const char *when)
+{
+    uint16_t i;
+
+    printf("%s the marks of elements are", when);
+    for (i = 0; i < n; i++) {
+        printf(" %u", (unsigned)marks[i]);
+    }
+    printf("\n");
+}
+
 static uint16_t phase(void)
 {
     return state[PROFILE_WALKER_STATE_PHASE];
@@ -113,8 +133,8 @@ static uint16_t load(const char *text)
 
 static uint16_t open_card(void)
 {
-    uint16_t number = profile_walker_open(n, m, start, after, WORDS(after), tail, WORDS(tail), marks, WORDS(marks),
-                                          events, WORDS(events), state, WORDS(state));
+    uint16_t number = profile_walker_open(n, m, start, after, WORDS(after), tail, WORDS(tail), before, before_words,
+                                          marks, WORDS(marks), events, WORDS(events), state, WORDS(state));
 
     if (report("open", number) == 0) {
         print_events(1);
@@ -131,6 +151,32 @@ static uint16_t move(void)
         print_events(made);
     }
     return number;
+}
+
+/* A winding order, and moves until the walk is withdrawn; how many they were, or -1. */
+static int wind_back(void)
+{
+    int moves;
+
+    if (report("wind back", profile_walker_roll_back(state, WORDS(state))) != 0) {
+        return -1;
+    }
+    for (moves = 0; phase() != PROFILE_WALKER_WITHDRAWN; moves++) {
+        if (move() != 0) {
+            return -1;
+        }
+    }
+    return moves;
+}
+
+/* One run with a budget that ends any walk. */
+static int run_to_the_end(void)
+{
+    uint16_t number =
+        profile_walker_run(state, WORDS(state), PROFILE_WALKER_MAX_MOVES, after, WORDS(after), tail, WORDS(tail), marks,
+                           WORDS(marks), events, WORDS(events), &steps, &made, &reason);
+
+    return report("run", number) != 0 || reason != PROFILE_WALKER_RUN_ENDED;
 }
 
 /* A jam halts the line after every move; the state, links and marks are all that the next move needs. */
@@ -161,6 +207,7 @@ static int card_with_jams(void)
 static int card_wound_back(void)
 {
     unsigned moves = 0;
+    int wound;
 
     printf("card 2: wound back after 3 moves\n");
     if (open_card() != 0) {
@@ -174,31 +221,20 @@ static int card_wound_back(void)
     }
     printf("jam after move %u, %s, links %s: wind back\n", moves, phases[phase()], links());
     print_tails("bent,");
-    if (report("wind back", profile_walker_roll_back(state, WORDS(state))) != 0) {
+    wound = wind_back();
+    if (wound < 0) {
         return 1;
     }
-    for (moves = 0; phase() != PROFILE_WALKER_WITHDRAWN; moves++) {
-        if (move() != 0) {
-            return 1;
-        }
-    }
-    printf("card 2: %s after %u moves, links %s\n", phases[phase()], moves, links());
+    printf("card 2: %s after %d moves, links %s\n", phases[phase()], wound, links());
     print_tails("wound back,");
     return 0;
 }
 
-/* One run with a budget that ends any walk; then the panel counts the card. */
+/* One run; then the panel counts the card. */
 static int card_accepted(uint32_t *figure)
 {
-    uint16_t number;
-
     printf("card 3: one run\n");
-    if (open_card() != 0) {
-        return 1;
-    }
-    number = profile_walker_run(state, WORDS(state), PROFILE_WALKER_MAX_MOVES, after, WORDS(after), tail, WORDS(tail),
-                                marks, WORDS(marks), events, WORDS(events), &steps, &made, &reason);
-    if (report("run", number) != 0 || reason != PROFILE_WALKER_RUN_ENDED) {
+    if (open_card() != 0 || run_to_the_end() != 0) {
         return 1;
     }
     printf("card 3: %lu moves, %lu more events, links %s\n", (unsigned long)steps, (unsigned long)made, links());
@@ -207,6 +243,47 @@ static int card_accepted(uint32_t *figure)
     }
     printf("card 3: %s, the panel shows %lu\n", phases[phase()], (unsigned long)*figure);
     return 0;
+}
+
+/* The chip maker has written element 3: it is labelled from the start, and keeps its mark when the card is wound back. */
+static int card_on_a_written_blank(uint32_t *figure)
+{
+    printf("card 4: element 3 is already on the blank\n");
+    before[0] = 3;
+    before_words = 1;
+    if (open_card() != 0 || move() != 0) {
+        return 1;
+    }
+    print_marks("jam after move 1,");
+    if (wind_back() < 0) {
+        return 1;
+    }
+    print_marks("wound back,");
+    if (open_card() != 0 || run_to_the_end() != 0) {
+        return 1;
+    }
+    print_events(made);
+    print_marks("ended,");
+    printf("card 4: %lu moves, circular %u, links %s\n", (unsigned long)steps,
+           (unsigned)state[PROFILE_WALKER_STATE_CIRCULAR], links());
+    if (report("accept", profile_walker_accept(state, WORDS(state), figure)) != 0) {
+        return 1;
+    }
+    printf("card 4: %s, the panel shows %lu\n", phases[phase()], (unsigned long)*figure);
+    return 0;
+}
+
+/* A list that does not rise, and one with the start on it. */
+static int lists_turned_back(void)
+{
+    before[0] = 3;
+    before[1] = 2;
+    before_words = 2;
+    if (open_card() != 17) {
+        return 1;
+    }
+    before[0] = 1;
+    return open_card() != 18;
 }
 
 /* A call that is turned back says why and changes nothing. */
@@ -222,6 +299,9 @@ static int refusals(uint32_t *figure)
     if (load("elements,references,start\n1,0,1\nfrom;to\n") != 12) {
         return 1;
     }
+    if (lists_turned_back() != 0) {
+        return 1;
+    }
     printf("the panel still shows %lu, links %s\n", (unsigned long)*figure, links());
     return 0;
 }
@@ -235,5 +315,6 @@ int main(void)
         return 1;
     }
     printf("loaded: %u elements, %u references, start %u\n", (unsigned)n, (unsigned)m, (unsigned)start);
-    return card_with_jams() || card_wound_back() || card_accepted(&figure) || refusals(&figure);
+    return card_with_jams() || card_wound_back() || card_accepted(&figure) || card_on_a_written_blank(&figure) ||
+           refusals(&figure);
 }

@@ -2,15 +2,18 @@
  * Writes the files of vectors/ for the line that it is linked with: the proved library, or another implementation of
  * the calls of profile_walker.h. What two lines write is compared by diff.
  *
- *   line depth   <profiles/NAME.csv         what depth/NAME.csv holds
- *   line breadth <profiles/NAME.csv         what breadth/NAME.csv holds
- *   line areas   <profiles/NAME.csv         what areas/NAME.csv holds
- *   line array   <profiles/NAME.csv         what array/NAME.csv holds
- *   line script  <scripts/PART/NAME.csv     the same calls, with the answers of this line
- *   line images  <refused/images.csv        the same images, with the numbers of this line
+ *   line depth   blanks/NAME.csv <profiles/NAME.csv     what depth/NAME.csv holds
+ *   line breadth blanks/NAME.csv <profiles/NAME.csv     what breadth/NAME.csv holds
+ *   line areas   blanks/NAME.csv <profiles/NAME.csv     what areas/NAME.csv holds
+ *   line array                   <profiles/NAME.csv     what array/NAME.csv holds
+ *   line script                  <scripts/PART/NAME.csv the same calls, with the answers of this line
+ *   line images                  <refused/images.csv    the same images, with the numbers of this line
+ *   line lists                   <refused/lists.csv     the same lists, with the numbers of this line
+ *   line arrays                  <refused/arrays.csv    the same array forms, with the numbers of this line
  *
- * A text that is turned back prints one line, as `refused,6`. Walks that must agree and do not end the program with 1,
- * and so does a file that is not in its form.
+ * The second word names a file with the elements already on the blank; there are none without it. A text that is turned
+ * back prints one line, as `refused,6`. Walks that must agree and do not end the program with 1, and so does a file that
+ * is not in its form.
  */
 #include <stdio.h>
 #include <stdlib.h>
@@ -26,11 +29,15 @@
 static uint16_t n, m, start;
 static uint16_t after[NODES];
 static uint16_t tail[PROFILE_WALKER_MAX_M];
+static uint16_t before[NODES]; /* the elements already on the blank */
+static size_t before_words;
 static uint16_t marks[NODES];
 static uint16_t events[PROFILE_WALKER_TEXT_EVENTS];
+static uint16_t state[PROFILE_WALKER_STATE_WORDS];
 
 /* One byte more than a text may have, so that a longer one is seen. */
 static uint8_t text[PROFILE_WALKER_MAX_TEXT + 1];
+static size_t text_bytes;
 static uint8_t output[PROFILE_WALKER_TEXT_OUTPUT];
 
 static void fail(const char *why)
@@ -51,16 +58,28 @@ static size_t nodes(void)
     return (size_t)n + m;
 }
 
-static size_t read_text(void)
+/* Reads a list: a line of its name, then an element to a line. */
+static void read_list(const char *path)
 {
-    return fread(text, 1, sizeof(text), stdin);
+    FILE *file = fopen(path, "r");
+    char name[16];
+    unsigned word;
+
+    must(file != NULL, "the list is missing");
+    must(fgets(name, sizeof(name), file) != NULL && strcmp(name, "element\n") == 0, "the list has no name");
+    while (fscanf(file, "%u", &word) == 1) {
+        must(before_words < WORDS(before), "the list is too long");
+        before[before_words++] = (uint16_t)word;
+    }
+    must(feof(file), "the list is out of form");
+    fclose(file);
 }
 
 /* Reads a profile; where it is turned back, prints that and gives 0. */
 static int load(void)
 {
     uint16_t number =
-        profile_walker_read_profile(text, read_text(), after, WORDS(after), tail, WORDS(tail), &n, &m, &start);
+        profile_walker_read_profile(text, text_bytes, after, WORDS(after), tail, WORDS(tail), &n, &m, &start);
 
     if (number != 0) {
         printf("refused,%u\n", (unsigned)number);
@@ -104,39 +123,71 @@ static uint16_t firsts[PROFILE_WALKER_MAX_N + 1];
 static uint16_t tails[PROFILE_WALKER_MAX_M];
 static uint16_t numbers[PROFILE_WALKER_MAX_M];
 
+static uint16_t convert_number(void)
+{
+    return profile_walker_to_array(n, m, after, WORDS(after), tail, WORDS(tail), firsts, WORDS(firsts), tails,
+                                   WORDS(tails), numbers, WORDS(numbers));
+}
+
 static void convert(void)
 {
-    must(profile_walker_to_array(n, m, after, WORDS(after), tail, WORDS(tail), firsts, WORDS(firsts), tails,
-                                 WORDS(tails), numbers, WORDS(numbers)) == 0,
-         "a loaded profile is not converted");
+    must(convert_number() == 0, "a loaded profile is not converted");
+}
+
+/* The number of each walk, which leaves its areas in w where it is taken. */
+
+static uint16_t queue_number(struct walk *w)
+{
+    return profile_walker_bfs_queue(n, m, start, after, WORDS(after), tail, WORDS(tail), before, before_words, w->marks,
+                                    WORDS(w->marks), w->own, WORDS(w->own), w->events, WORDS(w->events), w->tally,
+                                    WORDS(w->tally));
+}
+
+static uint16_t folded_queue_number(struct walk *w)
+{
+    return profile_walker_bfs_folded(n, m, start, after, WORDS(after), tail, WORDS(tail), before, before_words, w->marks,
+                                     WORDS(w->marks), w->events, WORDS(w->events), w->tally, WORDS(w->tally));
+}
+
+static uint16_t recursive_number(struct walk *w)
+{
+    return profile_walker_dfs_recursive(n, m, start, after, WORDS(after), tail, WORDS(tail), before, before_words,
+                                        w->marks, WORDS(w->marks), w->events, WORDS(w->events), w->tally,
+                                        WORDS(w->tally));
+}
+
+static uint16_t parent_number(struct walk *w)
+{
+    return profile_walker_dfs_parent(n, m, start, after, WORDS(after), tail, WORDS(tail), before, before_words, w->marks,
+                                     WORDS(w->marks), w->own, WORDS(w->own), w->events, WORDS(w->events), w->tally,
+                                     WORDS(w->tally));
+}
+
+static uint16_t array_number(struct walk *w)
+{
+    return profile_walker_dfs_array(n, m, start, firsts, WORDS(firsts), tails, WORDS(tails), before, before_words,
+                                    w->marks, WORDS(w->marks), w->own, WORDS(w->own), w->events, WORDS(w->events),
+                                    w->tally, WORDS(w->tally));
 }
 
 static void queue_walk(struct walk *w)
 {
-    must(profile_walker_bfs_queue(n, m, start, after, WORDS(after), tail, WORDS(tail), w->marks, WORDS(w->marks), w->own,
-                                  WORDS(w->own), w->events, WORDS(w->events), w->tally, WORDS(w->tally)) == 0,
-         "bfs_queue turns a loaded profile back");
+    must(queue_number(w) == 0, "bfs_queue turns a loaded profile back");
 }
 
 static void folded_queue_walk(struct walk *w)
 {
-    must(profile_walker_bfs_folded(n, m, start, after, WORDS(after), tail, WORDS(tail), w->marks, WORDS(w->marks),
-                                   w->events, WORDS(w->events), w->tally, WORDS(w->tally)) == 0,
-         "bfs_folded turns a loaded profile back");
+    must(folded_queue_number(w) == 0, "bfs_folded turns a loaded profile back");
 }
 
 static void recursive_walk(struct walk *w)
 {
-    must(profile_walker_dfs_recursive(n, m, start, after, WORDS(after), tail, WORDS(tail), w->marks, WORDS(w->marks),
-                                      w->events, WORDS(w->events), w->tally, WORDS(w->tally)) == 0,
-         "dfs_recursive turns a loaded profile back");
+    must(recursive_number(w) == 0, "dfs_recursive turns a loaded profile back");
 }
 
 static void parent_walk(struct walk *w)
 {
-    must(profile_walker_dfs_parent(n, m, start, after, WORDS(after), tail, WORDS(tail), w->marks, WORDS(w->marks), w->own,
-                                   WORDS(w->own), w->events, WORDS(w->events), w->tally, WORDS(w->tally)) == 0,
-         "dfs_parent turns a loaded profile back");
+    must(parent_number(w) == 0, "dfs_parent turns a loaded profile back");
 }
 
 /* The walk over the array form, its positions turned back into references. */
@@ -145,9 +196,7 @@ static void array_walk(struct walk *w)
     size_t i;
 
     convert();
-    must(profile_walker_dfs_array(n, m, start, firsts, WORDS(firsts), tails, WORDS(tails), w->marks, WORDS(w->marks),
-                                  w->own, WORDS(w->own), w->events, WORDS(w->events), w->tally, WORDS(w->tally)) == 0,
-         "dfs_array turns a converted profile back");
+    must(array_number(w) == 0, "dfs_array turns a converted profile back");
     for (i = 0; i < event_count(w); i++) {
         uint16_t *reference = &w->events[3 * i + 1];
         if (*reference != 0) {
@@ -158,27 +207,57 @@ static void array_walk(struct walk *w)
 
 static struct walk recursive, by_parents, over_array, by_queue, folded_queue;
 
+static void write_events(const uint16_t *words, size_t count)
+{
+    size_t i;
+
+    printf("event,reference,element\n");
+    for (i = 0; i < count; i++) {
+        const uint16_t *event = words + 3 * i;
+        printf("%u,%u,%u\n", (unsigned)event[0], (unsigned)event[1], (unsigned)event[2]);
+    }
+}
+
+/* The folded walk of a loaded profile, as walk_text prints it, with the elements already on the blank. */
+static void write_folded(void)
+{
+    uint32_t moves;
+    size_t made;
+    uint16_t reason;
+
+    must(profile_walker_open(n, m, start, after, WORDS(after), tail, WORDS(tail), before, before_words, marks,
+                             WORDS(marks), events, WORDS(events), state, WORDS(state)) == 0,
+         "open turns a loaded profile back");
+    must(profile_walker_run(state, WORDS(state), PROFILE_WALKER_MAX_MOVES, after, WORDS(after), tail, WORDS(tail), marks,
+                            WORDS(marks), events + 3, WORDS(events) - 3, &moves, &made, &reason) == 0 &&
+             reason == PROFILE_WALKER_RUN_ENDED,
+         "a run does not end the walk of a loaded profile");
+    write_events(events, 1 + made);
+    printf("elements,moves,circular\n%u,%lu,%u\n", state[PROFILE_WALKER_STATE_NEXT] - 1u, (unsigned long)moves,
+           (unsigned)state[PROFILE_WALKER_STATE_CIRCULAR]);
+}
+
 static void write_depth(void)
 {
     size_t printed;
 
-    profile_walker_walk_text(text, read_text(), after, WORDS(after), tail, WORDS(tail), marks, WORDS(marks), events,
+    if (before_words > 0) {
+        if (load()) {
+            write_folded();
+        }
+        return;
+    }
+    profile_walker_walk_text(text, text_bytes, after, WORDS(after), tail, WORDS(tail), marks, WORDS(marks), events,
                              WORDS(events), output, WORDS(output), &printed);
     fwrite(output, 1, printed, stdout);
 }
 
 static void write_breadth(void)
 {
-    size_t i;
-
     queue_walk(&by_queue);
     folded_queue_walk(&folded_queue);
     agree(&by_queue, &folded_queue);
-    printf("event,reference,element\n");
-    for (i = 0; i < event_count(&by_queue); i++) {
-        const uint16_t *event = by_queue.events + 3 * i;
-        printf("%u,%u,%u\n", (unsigned)event[0], (unsigned)event[1], (unsigned)event[2]);
-    }
+    write_events(by_queue.events, event_count(&by_queue));
 }
 
 static void write_areas(void)
@@ -282,7 +361,6 @@ static void write_words(const char *name, const uint16_t *words, size_t count)
 /* ---- Scripts: one line, call by call ---- */
 
 static size_t after_words, tail_words, mark_words;
-static uint16_t state[PROFILE_WALKER_STATE_WORDS];
 static uint32_t figure;
 
 static void write_links(void)
@@ -316,8 +394,8 @@ static void call_open(const char *at)
     uint16_t edges = (uint16_t)number_at(&at);
     uint16_t first = (uint16_t)number_at(&at);
     size_t words = lent(number_at(&at));
-    uint16_t number = profile_walker_open(vertices, edges, first, after, after_words, tail, tail_words, marks, mark_words,
-                                          events, words, state, WORDS(state));
+    uint16_t number = profile_walker_open(vertices, edges, first, after, after_words, tail, tail_words, before,
+                                          before_words, marks, mark_words, events, words, state, WORDS(state));
 
     printf("number,%u\n", (unsigned)number);
     write_left(number == 0 ? 1 : 0);
@@ -427,8 +505,15 @@ static size_t first_words(const char *name, uint16_t *words, size_t most)
 {
     const char *at = next_row() ? behind(row, name) : NULL;
 
-    must(at != NULL, "a script begins with its links and marks");
+    must(at != NULL, "a script begins with its links, marks and list");
     return words_at(&at, ',', words, most);
+}
+
+/* The list that openings are lent from here on. */
+static void lend(const char *at)
+{
+    before_words = words_at(&at, ',', before, WORDS(before));
+    write_words("before", before, before_words);
 }
 
 static void write_script(void)
@@ -440,17 +525,30 @@ static void write_script(void)
     while (next_row()) {
         const char *call = behind(row, "call");
         const char *set = behind(row, "set");
+        const char *list = behind(row, "before");
         if (call != NULL) {
             printf("%s\n", row);
             perform(call);
         } else if (set != NULL) {
             printf("%s\n", row);
             change(set);
+        } else if (list != NULL) {
+            lend(list);
         }
     }
 }
 
-/* ---- Images that are judged ---- */
+/* ---- Images, lists and array forms that are judged ---- */
+
+/* The words between spaces up to a comma, which is passed. */
+static size_t words_before_comma(const char **at, uint16_t *words, size_t most)
+{
+    size_t count = words_at(at, ' ', words, most);
+
+    must(**at == ',', "words are out of form");
+    (*at)++;
+    return count;
+}
 
 static void write_images(void)
 {
@@ -460,14 +558,73 @@ static void write_images(void)
         const char *at = row;
         uint16_t vertices = (uint16_t)number_at(&at);
         uint16_t edges = (uint16_t)number_at(&at);
-        size_t a, t;
+        size_t a = words_before_comma(&at, after, WORDS(after));
+        size_t t = words_before_comma(&at, tail, WORDS(tail));
 
-        a = words_at(&at, ' ', after, WORDS(after));
-        must(*at++ == ',', "the after words are out of form");
-        t = words_at(&at, ' ', tail, WORDS(tail));
-        must(*at == ',', "the tail words are out of form");
-        printf("%.*s,%u\n", (int)(at - row), row,
+        printf("%.*s%u\n", (int)(at - row), row,
                (unsigned)profile_walker_check_image(vertices, edges, after, a, tail, t));
+    }
+}
+
+/* The number of an opening, which every walk returns too; that over the array form where the image can be converted. */
+static uint16_t list_number(void)
+{
+    uint16_t number = profile_walker_open(n, m, start, after, WORDS(after), tail, WORDS(tail), before, before_words,
+                                          marks, WORDS(marks), events, WORDS(events), state, WORDS(state));
+
+    must(recursive_number(&recursive) == number, "dfs_recursive and open differ in their numbers");
+    must(parent_number(&by_parents) == number, "dfs_parent and open differ in their numbers");
+    must(queue_number(&by_queue) == number, "bfs_queue and open differ in their numbers");
+    must(folded_queue_number(&folded_queue) == number, "bfs_folded and open differ in their numbers");
+    must(convert_number() != 0 || array_number(&over_array) == number, "dfs_array and open differ in their numbers");
+    return number;
+}
+
+/* The sizes and the start at the front of a line. */
+static void sizes_at(const char **at)
+{
+    n = (uint16_t)number_at(at);
+    m = (uint16_t)number_at(at);
+    start = (uint16_t)number_at(at);
+}
+
+/* The list, and behind it the number, which is that of this line. */
+static void write_number(const char *at, uint16_t (*number)(void))
+{
+    before_words = words_before_comma(&at, before, WORDS(before));
+    printf("%.*s%u\n", (int)(at - row), row, (unsigned)number());
+}
+
+static void write_lists(void)
+{
+    must(next_row(), "no line of names");
+    printf("%s\n", row);
+    while (next_row()) {
+        const char *at = row;
+
+        sizes_at(&at);
+        must(words_before_comma(&at, after, WORDS(after)) == nodes(), "after words are missing");
+        must(words_before_comma(&at, tail, WORDS(tail)) == m, "tail words are missing");
+        write_number(at, list_number);
+    }
+}
+
+static uint16_t array_list_number(void)
+{
+    return array_number(&over_array);
+}
+
+static void write_arrays(void)
+{
+    must(next_row(), "no line of names");
+    printf("%s\n", row);
+    while (next_row()) {
+        const char *at = row;
+
+        sizes_at(&at);
+        must(words_before_comma(&at, firsts, WORDS(firsts)) == n + 1u, "first positions are missing");
+        must(words_before_comma(&at, tails, WORDS(tails)) == m, "tails are missing");
+        write_number(at, array_list_number);
     }
 }
 
@@ -475,22 +632,30 @@ int main(int count, char **words)
 {
     static const struct {
         const char *name;
+        int reads_text;
         int loads;
         void (*write)(void);
     } parts[] = {
-        {"depth", 0, write_depth},   {"breadth", 1, write_breadth}, {"areas", 1, write_areas},
-        {"array", 1, write_array},   {"script", 0, write_script},   {"images", 0, write_images},
+        {"depth", 1, 0, write_depth},   {"breadth", 1, 1, write_breadth}, {"areas", 1, 1, write_areas},
+        {"array", 1, 1, write_array},   {"script", 0, 0, write_script},   {"images", 0, 0, write_images},
+        {"lists", 0, 0, write_lists},   {"arrays", 0, 0, write_arrays},
     };
     size_t i;
 
+    if (count == 3) {
+        read_list(words[2]);
+    }
     for (i = 0; i < WORDS(parts); i++) {
-        if (count == 2 && strcmp(words[1], parts[i].name) == 0) {
+        if ((count == 2 || count == 3) && strcmp(words[1], parts[i].name) == 0) {
+            if (parts[i].reads_text) {
+                text_bytes = fread(text, 1, sizeof(text), stdin);
+            }
             if (!parts[i].loads || load()) {
                 parts[i].write();
             }
             return 0;
         }
     }
-    fail("usage: line depth|breadth|areas|array|script|images");
+    fail("usage: line depth|breadth|areas [LIST], or line array|script|images|lists|arrays");
     return 1;
 }

@@ -16,6 +16,13 @@
  * `const` areas are only read. These few things nobody can test from inside, so the library relies on them;
  * every value in every area may be anything at all.
  *
+ * Elements already on the blank. `before` lists the elements that the chip maker has written: element numbers,
+ * strictly rising, the start not among them; length 0 where there are none, and then too its pointer is not null.
+ * The list may have any length: none is too short, and one that is not as it must be is number 17 or 18. These
+ * elements are labelled before the start is, without an event, and their marks are 65,535. A reference to one is
+ * nontree and makes no profile circular; their own references are not met; and in a queue, parent or increment
+ * area they stand as the unreached do.
+ *
  * Numbers. A call returns 0 where it is taken, else the number with which it is turned back. A call that is
  * turned back has changed nothing, except that profile_walker_walk_text prints its line. The conditions are
  * tried in the order given with each call:
@@ -33,6 +40,8 @@
  *   11  accepting when the figure is 999,999 or more
  *   12  a text not in its form
  *   13  a text over 65,536 bytes
+ *   17  the list of elements already on the blank is not strictly rising, or leaves 1 to n
+ *   18  the start is on that list
  */
 #ifndef PROFILE_WALKER_H
 #define PROFILE_WALKER_H
@@ -43,6 +52,12 @@
 #ifdef __cplusplus
 extern "C" {
 #endif
+
+/*
+ * Raised whenever the signature of a call changes; 1 was the header without this number, whose calls took no list of
+ * elements already on the blank. C links by name alone: compile everything that calls the library with this header.
+ */
+#define PROFILE_WALKER_VERSION 2
 
 /* Limits and lengths. */
 enum {
@@ -73,7 +88,8 @@ enum {
     PROFILE_WALKER_STATE_PHASE = 6,
     PROFILE_WALKER_STATE_NEXT = 7,     /* the next label number */
     /* 1 where a reference was met that leads to an element labelled and not yet scanned, else 0; once the walk has
-     * ended, 1 exactly if some element reached has a path of one reference or more back to itself: */
+     * ended, 1 exactly if some element reached has a path of one reference or more back to itself that keeps to
+     * elements not on the blank: */
     PROFILE_WALKER_STATE_CIRCULAR = 8
 };
 
@@ -159,54 +175,62 @@ uint16_t profile_walker_walk_text(const uint8_t *text, size_t text_bytes,
 
 /* ---- Whole walks ----
  *
- * Each needs n+m marks, 6(n+m) event words and 7 words for the tally. Marks at the end: 1 for the start, then 2,
- * 3 and on in order of labelling, 0 for the rest. Event words past the last event stay as they were; the number
- * of events is the sum of the tally, which counts the events by kind, kind 1 first.
+ * Each needs n+m marks, 6(n+m) event words and 7 words for the tally, and takes a list of elements already on the
+ * blank. Marks at the end: 65,535 for these, 1 for the start, then 2, 3 and on in order of labelling, 0 for the
+ * rest. Event words past the last event stay as they were; the number of events is the sum of the tally, which
+ * counts the events by kind, kind 1 first.
  */
 
 /* Depth-first, recursive: n+m after words, m tail words. It nests up to n calls: see docs/INTEGRATION.md for the
- * stack. 1, 2, 3, 4, 5, 6, 7. */
+ * stack. 1, 2, 3, 4, 5, 6, 7, 17, 18. */
 uint16_t profile_walker_dfs_recursive(uint16_t n, uint16_t m, uint16_t start,
                                       const uint16_t *after, size_t after_words,
                                       const uint16_t *tail, size_t tail_words,
+                                      const uint16_t *before, size_t before_words,
                                       uint16_t *marks, size_t marks_words,
                                       uint16_t *events, size_t events_words,
                                       uint32_t *tally, size_t tally_words);
 
 /* Depth-first, with n parent words: at the end the tree reference into each element's parent, 0 for the start, its
- * children and the unreached. 1, 2, 3, 4, 5, 6, 7. */
+ * children and the unreached. 1, 2, 3, 4, 5, 6, 7, 17, 18. */
 uint16_t profile_walker_dfs_parent(uint16_t n, uint16_t m, uint16_t start,
                                    const uint16_t *after, size_t after_words,
                                    const uint16_t *tail, size_t tail_words,
+                                   const uint16_t *before, size_t before_words,
                                    uint16_t *marks, size_t marks_words,
                                    uint16_t *parents, size_t parents_words,
                                    uint16_t *events, size_t events_words,
                                    uint32_t *tally, size_t tally_words);
 
 /* Depth-first, over the array form: n+1 first positions, m tails, n increments. Events name position p as n+p. The
- * tails are written while the walk is under way, and are as they were when the call returns. 1, 2, 3, 4, 5, 6. */
+ * tails are written while the walk is under way, and are as they were when the call returns. 1, 2, 3, 4, 5, 6,
+ * 17, 18. */
 uint16_t profile_walker_dfs_array(uint16_t n, uint16_t m, uint16_t start,
                                   const uint16_t *firsts, size_t firsts_words,
                                   uint16_t *tails, size_t tails_words,
+                                  const uint16_t *before, size_t before_words,
                                   uint16_t *marks, size_t marks_words,
                                   uint16_t *increments, size_t increments_words,
                                   uint16_t *events, size_t events_words,
                                   uint32_t *tally, size_t tally_words);
 
-/* Breadth-first, with n queue words: at the end the labelled elements in order, then 0. 1, 2, 3, 4, 5, 6, 7. */
+/* Breadth-first, with n queue words: at the end the elements in order of labelling, then 0. 1, 2, 3, 4, 5, 6, 7, 17,
+ * 18. */
 uint16_t profile_walker_bfs_queue(uint16_t n, uint16_t m, uint16_t start,
                                   const uint16_t *after, size_t after_words,
                                   const uint16_t *tail, size_t tail_words,
+                                  const uint16_t *before, size_t before_words,
                                   uint16_t *marks, size_t marks_words,
                                   uint16_t *queue, size_t queue_words,
                                   uint16_t *events, size_t events_words,
                                   uint32_t *tally, size_t tally_words);
 
 /* Breadth-first, the queue folded into the links. The after words are written while the walk is under way, and are
- * as they were when the call returns. 1, 2, 3, 4, 5, 6, 7. */
+ * as they were when the call returns. 1, 2, 3, 4, 5, 6, 7, 17, 18. */
 uint16_t profile_walker_bfs_folded(uint16_t n, uint16_t m, uint16_t start,
                                    uint16_t *after, size_t after_words,
                                    const uint16_t *tail, size_t tail_words,
+                                   const uint16_t *before, size_t before_words,
                                    uint16_t *marks, size_t marks_words,
                                    uint16_t *events, size_t events_words,
                                    uint32_t *tally, size_t tally_words);
@@ -217,18 +241,22 @@ uint16_t profile_walker_bfs_folded(uint16_t n, uint16_t m, uint16_t start,
  * links, marks or state.
  *
  * Marks. An element that is labelled gets its label number plus 32,768; its scan leaves the remainder by 32,768, the
- * number alone. So a mark of 32,768 or more is of an element not yet scanned, and in phase 3 the marks are those of a
- * whole walk. Winding back leaves marks alone before its last move, which clears the n marks of elements.
+ * number alone. So a mark from 32,768 to 65,534 is of an element not yet scanned, 65,535 is of one already on the
+ * blank, and in phase 3 the marks are those of a whole walk. Winding back leaves marks alone before its last move,
+ * which clears the n marks of elements, but for those of 65,535.
+ *
+ * Only the opening takes the list of elements already on the blank: from then on their marks say it.
  */
 
 /*
- * Opens a walk: checks the image, clears the n+m marks, labels the start (mark 32,769), writes one event (3 words) and
- * the state (9 words). n+m after words, m tail words.
- * 1, 2, 3 (all areas, the state's too), 4, 5, 6, 7.
+ * Opens a walk: checks the image, clears the n+m marks, sets those of the elements already on the blank to 65,535,
+ * labels the start (mark 32,769), writes one event (3 words) and the state (9 words). n+m after words, m tail words.
+ * 1, 2, 3 (all areas, the state's too), 4, 5, 6, 7, 17, 18.
  */
 uint16_t profile_walker_open(uint16_t n, uint16_t m, uint16_t start,
                              const uint16_t *after, size_t after_words,
                              const uint16_t *tail, size_t tail_words,
+                             const uint16_t *before, size_t before_words,
                              uint16_t *marks, size_t marks_words,
                              uint16_t *events, size_t events_words,
                              uint16_t *state, size_t state_words);

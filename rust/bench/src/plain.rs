@@ -1,5 +1,5 @@
-//! The fastest plain searches on arrays: label numbers and nothing else. No area is judged, no event is written, no
-//! index is tested, and the working space is kept from one search to the next.
+//! The fastest plain searches on arrays: label numbers and nothing else. No area is judged, no event is written, nothing
+//! is on the blank, no index is tested, and the working space is kept from one search to the next.
 
 use crate::shapes::Profile;
 

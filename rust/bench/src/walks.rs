@@ -6,15 +6,17 @@ use crate::shapes::Profile;
 use crate::timing::times;
 use profile_walker as proved;
 
-/// Areas of one contender: the links of each profile, and the areas that its calls write. They are lent again as the
-/// call before left them; nothing clears them in between.
+/// Areas of one contender: the links of each profile, the elements already on the blank, and the areas that its calls
+/// write. They are lent again as the call before left them; nothing clears them in between.
 struct Areas {
     links: Vec<Links>,
     at: usize,
+    before: Vec<u16>,
     marks: Vec<u16>,
     own: Vec<u16>,
     events: Vec<u16>,
     tally: [u32; 7],
+    moves: u32,
     circular: u16,
 }
 
@@ -37,10 +39,12 @@ impl Areas {
         Areas {
             links: links.collect(),
             at: 0,
+            before: Vec::new(),
             marks: vec![0; n + m],
             own: vec![0; n],
             events: vec![0; (6 * (n + m)).max(3 + 6 * (2 * m + n))],
             tally: [0; 7],
+            moves: 0,
             circular: 0,
         }
     }
@@ -51,7 +55,7 @@ impl Areas {
     }
 
     /// All that a call may have written.
-    fn left(&self) -> ([&[u16]; 6], &[u32; 7], u16) {
+    fn left(&self) -> ([&[u16]; 6], &[u32; 7], u32, u16) {
         let links = &self.links[self.at];
         let words = [
             &links.after,
@@ -61,7 +65,8 @@ impl Areas {
             &self.own,
             &self.events,
         ];
-        (words.map(Vec::as_slice), &self.tally, self.circular)
+        let words = words.map(Vec::as_slice);
+        (words, &self.tally, self.moves, self.circular)
     }
 }
 
@@ -91,18 +96,9 @@ fn measure(
     proved: Call,
     same: Call,
 ) -> Row {
-    let (n, m, shape) = (profiles[0].n, profiles[0].m, profiles[0].shape);
+    let (n, m) = (profiles[0].n, profiles[0].m);
     let (mut ours, mut theirs) = (Areas::new(profiles), Areas::new(profiles));
-    for _ in profiles {
-        proved(n, m, &mut ours);
-        same(n, m, &mut theirs);
-        assert!(
-            ours.left() == theirs.left(),
-            "{call}, {shape}: the two differ"
-        );
-        ours.turn();
-        theirs.turn();
-    }
+    same_agrees(profiles, call, proved, same);
     let mut plain: Vec<Plain> = profiles.iter().map(Plain::new).collect();
     let mut at = 0;
     let mut first = || {
@@ -130,6 +126,27 @@ fn measure(
     }
 }
 
+/// The same in safe Rust leaves what the proved call leaves, also with elements already on the blank. What is measured is
+/// a call with nothing on it.
+fn same_agrees(profiles: &[Profile], call: &'static str, proved: Call, same: Call) {
+    let (n, m, shape) = (profiles[0].n, profiles[0].m, profiles[0].shape);
+    let (mut ours, mut theirs) = (Areas::new(profiles), Areas::new(profiles));
+    for before in [Vec::new(), (2..=n).step_by(7).collect()] {
+        ours.before.clone_from(&before);
+        theirs.before = before;
+        for _ in profiles {
+            proved(n, m, &mut ours);
+            same(n, m, &mut theirs);
+            assert!(
+                ours.left() == theirs.left(),
+                "{call}, {shape}: the two differ"
+            );
+            ours.turn();
+            theirs.turn();
+        }
+    }
+}
+
 /// The plain searches label as the proved ones do.
 fn plain_agrees(profiles: &[Profile]) {
     let (n, m, mut a) = (profiles[0].n, profiles[0].m, Areas::new(profiles));
@@ -146,6 +163,7 @@ fn plain_agrees(profiles: &[Profile]) {
             1,
             &links.after,
             &links.tail,
+            &[],
             &mut a.marks,
             &mut a.events,
         );
@@ -161,6 +179,7 @@ fn plain_agrees(profiles: &[Profile]) {
             1,
             &links.after,
             &links.tail,
+            &[],
             &mut a.marks,
             &mut a.own,
             &mut a.events,
@@ -177,35 +196,75 @@ fn plain_agrees(profiles: &[Profile]) {
 /// The proved whole walks, and the same in safe Rust.
 fn dfs_recursive(n: u16, m: u16, a: &mut Areas) {
     let l = &a.links[a.at];
-    let walked = proved::dfs_recursive(n, m, 1, &l.after, &l.tail, &mut a.marks, &mut a.events);
+    let walked = proved::dfs_recursive(
+        n,
+        m,
+        1,
+        &l.after,
+        &l.tail,
+        &a.before,
+        &mut a.marks,
+        &mut a.events,
+    );
     a.tally = walked.unwrap().0;
 }
 
 fn same_recursive(n: u16, m: u16, a: &mut Areas) {
     let l = &a.links[a.at];
     let (marks, events) = (&mut a.marks, &mut a.events);
-    let number = same::recursive(n, m, 1, &l.after, &l.tail, marks, events, &mut a.tally);
+    let number = same::recursive(
+        n,
+        m,
+        1,
+        &l.after,
+        &l.tail,
+        &a.before,
+        marks,
+        events,
+        &mut a.tally,
+    );
     assert_eq!(number, 0);
 }
 
 fn dfs_parent(n: u16, m: u16, a: &mut Areas) {
     let l = &a.links[a.at];
     let (marks, own, events) = (&mut a.marks, &mut a.own, &mut a.events);
-    let walked = proved::dfs_parent(n, m, 1, &l.after, &l.tail, marks, own, events);
+    let walked = proved::dfs_parent(n, m, 1, &l.after, &l.tail, &a.before, marks, own, events);
     a.tally = walked.unwrap().0;
 }
 
 fn same_parent(n: u16, m: u16, a: &mut Areas) {
     let l = &a.links[a.at];
     let (marks, own, events) = (&mut a.marks, &mut a.own, &mut a.events);
-    let number = same::parent(n, m, 1, &l.after, &l.tail, marks, own, events, &mut a.tally);
+    let number = same::parent(
+        n,
+        m,
+        1,
+        &l.after,
+        &l.tail,
+        &a.before,
+        marks,
+        own,
+        events,
+        &mut a.tally,
+    );
     assert_eq!(number, 0);
 }
 
 fn dfs_array(n: u16, m: u16, a: &mut Areas) {
     let l = &mut a.links[a.at];
     let (marks, own, events) = (&mut a.marks, &mut a.own, &mut a.events);
-    let walked = proved::dfs_array(n, m, 1, &l.firsts, &mut l.tails, marks, own, events);
+    let walked = proved::dfs_array(
+        n,
+        m,
+        1,
+        &l.firsts,
+        &mut l.tails,
+        &a.before,
+        marks,
+        own,
+        events,
+    );
     a.tally = walked.unwrap().0;
 }
 
@@ -213,35 +272,67 @@ fn same_array(n: u16, m: u16, a: &mut Areas) {
     let l = &mut a.links[a.at];
     let (marks, own, events) = (&mut a.marks, &mut a.own, &mut a.events);
     let tally = &mut a.tally;
-    let number = same::array(n, m, 1, &l.firsts, &mut l.tails, marks, own, events, tally);
+    let number = same::array(
+        n,
+        m,
+        1,
+        &l.firsts,
+        &mut l.tails,
+        &a.before,
+        marks,
+        own,
+        events,
+        tally,
+    );
     assert_eq!(number, 0);
 }
 
 fn bfs_queue(n: u16, m: u16, a: &mut Areas) {
     let l = &a.links[a.at];
     let (marks, own, events) = (&mut a.marks, &mut a.own, &mut a.events);
-    let walked = proved::bfs_queue(n, m, 1, &l.after, &l.tail, marks, own, events);
+    let walked = proved::bfs_queue(n, m, 1, &l.after, &l.tail, &a.before, marks, own, events);
     a.tally = walked.unwrap().0;
 }
 
 fn same_queue(n: u16, m: u16, a: &mut Areas) {
     let l = &a.links[a.at];
     let (marks, own, events) = (&mut a.marks, &mut a.own, &mut a.events);
-    let number = same::queue(n, m, 1, &l.after, &l.tail, marks, own, events, &mut a.tally);
+    let number = same::queue(
+        n,
+        m,
+        1,
+        &l.after,
+        &l.tail,
+        &a.before,
+        marks,
+        own,
+        events,
+        &mut a.tally,
+    );
     assert_eq!(number, 0);
 }
 
 fn bfs_folded(n: u16, m: u16, a: &mut Areas) {
     let l = &mut a.links[a.at];
     let (marks, events) = (&mut a.marks, &mut a.events);
-    let walked = proved::bfs_folded(n, m, 1, &mut l.after, &l.tail, marks, events);
+    let walked = proved::bfs_folded(n, m, 1, &mut l.after, &l.tail, &a.before, marks, events);
     a.tally = walked.unwrap().0;
 }
 
 fn same_folded_queue(n: u16, m: u16, a: &mut Areas) {
     let l = &mut a.links[a.at];
     let (marks, events) = (&mut a.marks, &mut a.events);
-    let number = same::folded_queue(n, m, 1, &mut l.after, &l.tail, marks, events, &mut a.tally);
+    let number = same::folded_queue(
+        n,
+        m,
+        1,
+        &mut l.after,
+        &l.tail,
+        &a.before,
+        marks,
+        events,
+        &mut a.tally,
+    );
     assert_eq!(number, 0);
 }
 
@@ -249,25 +340,27 @@ fn same_folded_queue(n: u16, m: u16, a: &mut Areas) {
 fn open_and_run(n: u16, m: u16, a: &mut Areas) {
     let l = &mut a.links[a.at];
     let (marks, events) = (&mut a.marks, &mut a.events);
-    let mut state = proved::open(n, m, 1, &l.after, &l.tail, marks, events).unwrap();
+    let mut state = proved::open(n, m, 1, &l.after, &l.tail, &a.before, marks, events).unwrap();
     let budget = 2 * u32::from(m) + u32::from(n);
     let (after, tail) = (&mut l.after, &mut l.tail);
     let ran = proved::run(&mut state, budget, after, tail, marks, &mut events[3..]).unwrap();
-    assert_eq!((ran.steps, ran.reason), (budget, proved::Reason::Ended));
-    a.circular = state.circular();
+    assert_eq!(ran.reason, proved::Reason::Ended);
+    (a.moves, a.circular) = (ran.steps, state.circular());
 }
 
 fn same_open_and_run(n: u16, m: u16, a: &mut Areas) {
     let l = &mut a.links[a.at];
     let (marks, events) = (&mut a.marks, &mut a.events);
-    let Ok(mut state) = same::open(n, m, 1, &l.after, &l.tail, marks, events) else {
+    let Ok(mut state) = same::open(n, m, 1, &l.after, &l.tail, &a.before, marks, events) else {
         panic!("refused");
     };
     let budget = 2 * u32::from(m) + u32::from(n);
     let (after, tail) = (&mut l.after, &mut l.tail);
     let ran = same::run(&mut state, budget, after, tail, marks, &mut events[3..]);
-    assert!(matches!(ran, Ok((steps, _, 1)) if steps == budget));
-    a.circular = state.circular();
+    let Ok((moves, _, 1)) = ran else {
+        panic!("not ended");
+    };
+    (a.moves, a.circular) = (moves, state.circular());
 }
 
 /// The checker of images.

@@ -1,6 +1,8 @@
 //! The fifteen calls with every area lent as a slice of any length, and every word that a call sets lent as a
 //! reference. A call that is turned back leaves all of them as they were, except for what [`walk_text`] prints.
 //!
+//! `before` lists the elements already on the blank, strictly rising: it may have any length, and none is too short.
+//!
 //! The calls at the root of the crate are the same ones over [`State`](crate::State), [`Tally`](crate::Tally) and
 //! [`Ran`](crate::Ran). Those here take a state or tally area that may be too short.
 
@@ -121,7 +123,7 @@ pub fn walk_text(
 /// Searches depth-first by recursion. It nests up to n calls.
 ///
 /// Areas: n+m after words, m tail words, n+m marks, 6(n+m) event words, 7 tally words.
-/// Numbers: 1, 2, 3, 4, 5, 6, 7.
+/// Numbers: 1, 2, 3, 4, 5, 6, 7, 17, 18.
 #[allow(clippy::too_many_arguments)]
 pub fn dfs_recursive(
     n: u16,
@@ -129,6 +131,7 @@ pub fn dfs_recursive(
     start: u16,
     after: &[u16],
     tail: &[u16],
+    before: &[u16],
     marks: &mut [u16],
     events: &mut [u16],
     tally: &mut [u32],
@@ -143,6 +146,8 @@ pub fn dfs_recursive(
             after.len(),
             tail.as_ptr(),
             tail.len(),
+            before.as_ptr(),
+            before.len(),
             marks.as_mut_ptr(),
             marks.len(),
             events.as_mut_ptr(),
@@ -157,7 +162,7 @@ pub fn dfs_recursive(
 /// parent, 0 for the start, its children and the unreached.
 ///
 /// Areas: n+m after words, m tail words, n+m marks, n parents, 6(n+m) event words, 7 tally words.
-/// Numbers: 1, 2, 3, 4, 5, 6, 7.
+/// Numbers: 1, 2, 3, 4, 5, 6, 7, 17, 18.
 #[allow(clippy::too_many_arguments)]
 pub fn dfs_parent(
     n: u16,
@@ -165,6 +170,7 @@ pub fn dfs_parent(
     start: u16,
     after: &[u16],
     tail: &[u16],
+    before: &[u16],
     marks: &mut [u16],
     parents: &mut [u16],
     events: &mut [u16],
@@ -180,6 +186,8 @@ pub fn dfs_parent(
             after.len(),
             tail.as_ptr(),
             tail.len(),
+            before.as_ptr(),
+            before.len(),
             marks.as_mut_ptr(),
             marks.len(),
             parents.as_mut_ptr(),
@@ -197,7 +205,7 @@ pub fn dfs_parent(
 /// tails are written while the walk is under way, and are as they were when the call returns.
 ///
 /// Areas: n+1 first positions, m tails, n+m marks, n increments, 6(n+m) event words, 7 tally words.
-/// Numbers: 1, 2, 3, 4, 5, 6.
+/// Numbers: 1, 2, 3, 4, 5, 6, 17, 18.
 #[allow(clippy::too_many_arguments)]
 pub fn dfs_array(
     n: u16,
@@ -205,6 +213,7 @@ pub fn dfs_array(
     start: u16,
     firsts: &[u16],
     tails: &mut [u16],
+    before: &[u16],
     marks: &mut [u16],
     increments: &mut [u16],
     events: &mut [u16],
@@ -220,6 +229,8 @@ pub fn dfs_array(
             firsts.len(),
             tails.as_mut_ptr(),
             tails.len(),
+            before.as_ptr(),
+            before.len(),
             marks.as_mut_ptr(),
             marks.len(),
             increments.as_mut_ptr(),
@@ -232,10 +243,10 @@ pub fn dfs_array(
     })
 }
 
-/// Searches breadth-first with a queue: at the end the labelled elements in order, then 0.
+/// Searches breadth-first with a queue: at the end the elements in order of labelling, then 0.
 ///
 /// Areas: n+m after words, m tail words, n+m marks, n queue words, 6(n+m) event words, 7 tally words.
-/// Numbers: 1, 2, 3, 4, 5, 6, 7.
+/// Numbers: 1, 2, 3, 4, 5, 6, 7, 17, 18.
 #[allow(clippy::too_many_arguments)]
 pub fn bfs_queue(
     n: u16,
@@ -243,6 +254,7 @@ pub fn bfs_queue(
     start: u16,
     after: &[u16],
     tail: &[u16],
+    before: &[u16],
     marks: &mut [u16],
     queue: &mut [u16],
     events: &mut [u16],
@@ -258,6 +270,8 @@ pub fn bfs_queue(
             after.len(),
             tail.as_ptr(),
             tail.len(),
+            before.as_ptr(),
+            before.len(),
             marks.as_mut_ptr(),
             marks.len(),
             queue.as_mut_ptr(),
@@ -274,7 +288,7 @@ pub fn bfs_queue(
 /// way, and are as they were when the call returns.
 ///
 /// Areas: n+m after words, m tail words, n+m marks, 6(n+m) event words, 7 tally words.
-/// Numbers: 1, 2, 3, 4, 5, 6, 7.
+/// Numbers: 1, 2, 3, 4, 5, 6, 7, 17, 18.
 #[allow(clippy::too_many_arguments)]
 pub fn bfs_folded(
     n: u16,
@@ -282,6 +296,7 @@ pub fn bfs_folded(
     start: u16,
     after: &mut [u16],
     tail: &[u16],
+    before: &[u16],
     marks: &mut [u16],
     events: &mut [u16],
     tally: &mut [u32],
@@ -296,6 +311,8 @@ pub fn bfs_folded(
             after.len(),
             tail.as_ptr(),
             tail.len(),
+            before.as_ptr(),
+            before.len(),
             marks.as_mut_ptr(),
             marks.len(),
             events.as_mut_ptr(),
@@ -306,10 +323,10 @@ pub fn bfs_folded(
     })
 }
 
-/// Opens a folded walk: checks the image, clears the marks, labels the start (mark 32,769), writes one event and the
-/// state.
+/// Opens a folded walk: checks the image, clears the marks, sets those of the elements already on the blank to 65,535,
+/// labels the start (mark 32,769), writes one event and the state.
 ///
-/// Areas: n+m after words, m tail words, n+m marks, 3 event words, 9 state words. Numbers: 1, 2, 3, 4, 5, 6, 7.
+/// Areas: n+m after words, m tail words, n+m marks, 3 event words, 9 state words. Numbers: 1, 2, 3, 4, 5, 6, 7, 17, 18.
 #[allow(clippy::too_many_arguments)]
 pub fn open(
     n: u16,
@@ -317,6 +334,7 @@ pub fn open(
     start: u16,
     after: &[u16],
     tail: &[u16],
+    before: &[u16],
     marks: &mut [u16],
     events: &mut [u16],
     state: &mut [u16],
@@ -331,6 +349,8 @@ pub fn open(
             after.len(),
             tail.as_ptr(),
             tail.len(),
+            before.as_ptr(),
+            before.len(),
             marks.as_mut_ptr(),
             marks.len(),
             events.as_mut_ptr(),
@@ -344,7 +364,8 @@ pub fn open(
 /// Makes one move, and sets `steps` to 1, `made` to the number of events written and `reason` to 0.
 ///
 /// An element that is labelled is marked with its label number plus 32,768; its scan leaves the remainder by 32,768,
-/// the number alone. Winding back leaves marks alone before its last move, which clears the n marks of elements.
+/// the number alone. Winding back leaves marks alone before its last move, which clears the n marks of elements, but
+/// for those of 65,535.
 ///
 /// Areas, by the state's n and m: 9 state words, n+m after words, m tail words, n+m marks, 6 event words.
 /// Numbers: 3 where the state has fewer than 9 words; then 1, 2, 3, 4, 8, 9.

@@ -1,7 +1,8 @@
 //! The folded depth-first walk, move by move.
 //!
 //! From the opening to phase 3 or 5 the links are bent, and nobody else writes links, marks or state.
-//! A mark of 32,768 or more is of an element not yet scanned; in phase 3 the marks are those of a whole walk.
+//! A mark from 32,768 to 65,534 is of an element not yet scanned, 65,535 of one already on the blank; in phase 3 the
+//! marks are those of a whole walk.
 
 use crate::areas;
 use crate::refusal::Refusal;
@@ -60,28 +61,31 @@ pub struct Ran {
     pub reason: Reason,
 }
 
-/// Opens a walk: checks the image, clears the marks, labels the start (mark 32,769), writes one event and gives the
-/// state.
+/// Opens a walk: checks the image, clears the marks, sets those of the elements already on the blank (`before`, strictly
+/// rising) to 65,535, labels the start (mark 32,769), writes one event and gives the state.
 ///
-/// Areas: n+m after words, m tail words, n+m marks, 3 event words. Numbers: 1, 2, 3, 4, 5, 6, 7.
+/// Areas: n+m after words, m tail words, n+m marks, 3 event words. Numbers: 1, 2, 3, 4, 5, 6, 7, 17, 18.
+#[allow(clippy::too_many_arguments)]
 pub fn open(
     n: u16,
     m: u16,
     start: u16,
     after: &[u16],
     tail: &[u16],
+    before: &[u16],
     marks: &mut [u16],
     events: &mut [u16],
 ) -> Result<State, Refusal> {
     let mut state = [0; STATE_WORDS];
-    areas::open(n, m, start, after, tail, marks, events, &mut state)?;
+    areas::open(n, m, start, after, tail, before, marks, events, &mut state)?;
     Ok(State::from_words(state))
 }
 
 /// Makes one move.
 ///
 /// An element that is labelled is marked with its label number plus 32,768; its scan leaves the remainder by 32,768,
-/// the number alone. Winding back leaves marks alone before its last move, which clears the n marks of elements.
+/// the number alone. Winding back leaves marks alone before its last move, which clears the n marks of elements, but
+/// for those of 65,535.
 ///
 /// Areas, by the state's n and m: n+m after words, m tail words, n+m marks, 6 event words.
 /// Numbers: 1, 2, 3, 4, 8, 9.

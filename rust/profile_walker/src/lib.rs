@@ -8,6 +8,8 @@
 //! words past those needed are never written. A call gives a [`Refusal`] where it is turned back, and has then
 //! changed nothing. No call panics, allocates or keeps anything.
 //!
+//! Walks and openings take a list of the elements already on the blank, which the chip maker has written; none here.
+//!
 //! ```
 //! use profile_walker::{open, phase, read_profile, roll_back, run, step, Reason};
 //!
@@ -15,7 +17,7 @@
 //! let (mut after, mut tail, mut marks) = ([0; 3], [0; 1], [0; 3]);
 //! let profile = read_profile(text, &mut after, &mut tail)?;
 //! let mut events = [0; 3 + 6 * 4];
-//! let mut state = open(profile.n, profile.m, profile.start, &after, &tail, &mut marks, &mut events)?;
+//! let mut state = open(profile.n, profile.m, profile.start, &after, &tail, &[], &mut marks, &mut events)?;
 //!
 //! // One move bends the links; a winding order and further moves put them back.
 //! let loaded = (after, tail);

@@ -20,6 +20,8 @@ use std::fmt;
 /// | 11 | accepting when the figure is 999,999 or more |
 /// | 12 | a text not in its form |
 /// | 13 | a text over 65,536 bytes |
+/// | 17 | the list of elements already on the blank is not strictly rising, or leaves 1 to n |
+/// | 18 | the start is on that list |
 #[derive(Clone, Copy, Debug, PartialEq, Eq, Hash)]
 pub struct Refusal(pub u16);
 

@@ -80,7 +80,8 @@ impl State {
     }
 
     /// 1 where a reference was met that leads to an element labelled and not yet scanned, else 0. Once the walk has
-    /// ended it is 1 exactly if some element reached has a path of one reference or more back to itself.
+    /// ended it is 1 exactly if some element reached has a path of one reference or more back to itself that keeps to
+    /// elements not on the blank.
     pub const fn circular(&self) -> u16 {
         self.0[8]
     }

@@ -1,7 +1,10 @@
 //! Whole walks.
 //!
-//! Each clears the n+m marks and leaves 1 for the start, then 2, 3 and on in order of labelling, and 0 for the rest.
-//! Event words past the last event stay as they were.
+//! Each clears the n+m marks and leaves 65,535 for the elements already on the blank, 1 for the start, then 2, 3 and on
+//! in order of labelling, and 0 for the rest. Event words past the last event stay as they were.
+//!
+//! `before` lists the elements already on the blank, strictly rising; none where it is empty. They are labelled before
+//! the start is, without an event: a reference to one is nontree, and its own references are not met.
 
 use crate::areas;
 use crate::refusal::Refusal;
@@ -40,25 +43,37 @@ impl Tally {
 
 /// Searches depth-first by recursion. It nests up to n calls.
 ///
-/// Areas: n+m after words, m tail words, n+m marks, 6(n+m) event words. Numbers: 1, 2, 3, 4, 5, 6, 7.
+/// Areas: n+m after words, m tail words, n+m marks, 6(n+m) event words. Numbers: 1, 2, 3, 4, 5, 6, 7, 17, 18.
+#[allow(clippy::too_many_arguments)]
 pub fn dfs_recursive(
     n: u16,
     m: u16,
     start: u16,
     after: &[u16],
     tail: &[u16],
+    before: &[u16],
     marks: &mut [u16],
     events: &mut [u16],
 ) -> Result<Tally, Refusal> {
     let mut tally = Tally::default();
-    areas::dfs_recursive(n, m, start, after, tail, marks, events, &mut tally.0)?;
+    areas::dfs_recursive(
+        n,
+        m,
+        start,
+        after,
+        tail,
+        before,
+        marks,
+        events,
+        &mut tally.0,
+    )?;
     Ok(tally)
 }
 
 /// Searches depth-first with a parent word for each element: at the end the tree reference into the element's
 /// parent, 0 for the start, its children and the unreached.
 ///
-/// Areas: n+m after words, m tail words, n+m marks, n parents, 6(n+m) event words. Numbers: 1, 2, 3, 4, 5, 6, 7.
+/// Areas: n+m after words, m tail words, n+m marks, n parents, 6(n+m) event words. Numbers: 1, 2, 3, 4, 5, 6, 7, 17, 18.
 #[allow(clippy::too_many_arguments)]
 pub fn dfs_parent(
     n: u16,
@@ -66,6 +81,7 @@ pub fn dfs_parent(
     start: u16,
     after: &[u16],
     tail: &[u16],
+    before: &[u16],
     marks: &mut [u16],
     parents: &mut [u16],
     events: &mut [u16],
@@ -77,6 +93,7 @@ pub fn dfs_parent(
         start,
         after,
         tail,
+        before,
         marks,
         parents,
         events,
@@ -89,7 +106,7 @@ pub fn dfs_parent(
 /// its list of the element's last tree reference, 1 for a reached element without one, 0 for the unreached. The
 /// tails are written while the walk is under way, and are as they were when the call returns.
 ///
-/// Areas: n+1 first positions, m tails, n+m marks, n increments, 6(n+m) event words. Numbers: 1, 2, 3, 4, 5, 6.
+/// Areas: n+1 first positions, m tails, n+m marks, n increments, 6(n+m) event words. Numbers: 1, 2, 3, 4, 5, 6, 17, 18.
 #[allow(clippy::too_many_arguments)]
 pub fn dfs_array(
     n: u16,
@@ -97,6 +114,7 @@ pub fn dfs_array(
     start: u16,
     firsts: &[u16],
     tails: &mut [u16],
+    before: &[u16],
     marks: &mut [u16],
     increments: &mut [u16],
     events: &mut [u16],
@@ -108,6 +126,7 @@ pub fn dfs_array(
         start,
         firsts,
         tails,
+        before,
         marks,
         increments,
         events,
@@ -116,10 +135,10 @@ pub fn dfs_array(
     Ok(tally)
 }
 
-/// Searches breadth-first with a queue: at the end the labelled elements in order, then 0.
+/// Searches breadth-first with a queue: at the end the elements in order of labelling, then 0.
 ///
 /// Areas: n+m after words, m tail words, n+m marks, n queue words, 6(n+m) event words.
-/// Numbers: 1, 2, 3, 4, 5, 6, 7.
+/// Numbers: 1, 2, 3, 4, 5, 6, 7, 17, 18.
 #[allow(clippy::too_many_arguments)]
 pub fn bfs_queue(
     n: u16,
@@ -127,29 +146,53 @@ pub fn bfs_queue(
     start: u16,
     after: &[u16],
     tail: &[u16],
+    before: &[u16],
     marks: &mut [u16],
     queue: &mut [u16],
     events: &mut [u16],
 ) -> Result<Tally, Refusal> {
     let mut tally = Tally::default();
-    areas::bfs_queue(n, m, start, after, tail, marks, queue, events, &mut tally.0)?;
+    areas::bfs_queue(
+        n,
+        m,
+        start,
+        after,
+        tail,
+        before,
+        marks,
+        queue,
+        events,
+        &mut tally.0,
+    )?;
     Ok(tally)
 }
 
 /// Searches breadth-first with the queue folded into the links. The after words are written while the walk is under
 /// way, and are as they were when the call returns.
 ///
-/// Areas: n+m after words, m tail words, n+m marks, 6(n+m) event words. Numbers: 1, 2, 3, 4, 5, 6, 7.
+/// Areas: n+m after words, m tail words, n+m marks, 6(n+m) event words. Numbers: 1, 2, 3, 4, 5, 6, 7, 17, 18.
+#[allow(clippy::too_many_arguments)]
 pub fn bfs_folded(
     n: u16,
     m: u16,
     start: u16,
     after: &mut [u16],
     tail: &[u16],
+    before: &[u16],
     marks: &mut [u16],
     events: &mut [u16],
 ) -> Result<Tally, Refusal> {
     let mut tally = Tally::default();
-    areas::bfs_folded(n, m, start, after, tail, marks, events, &mut tally.0)?;
+    areas::bfs_folded(
+        n,
+        m,
+        start,
+        after,
+        tail,
+        before,
+        marks,
+        events,
+        &mut tally.0,
+    )?;
     Ok(tally)
 }

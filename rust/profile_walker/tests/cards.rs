@@ -1,9 +1,9 @@
 //! The cards, examples and limits that the scope document prints, with its own figures.
 
 use profile_walker::{
-    accept, areas, bfs_queue, check_image, dfs_array, dfs_parent, dfs_recursive, kind, open, phase,
-    read_profile, roll_back, run, shift_start, step, text_areas, to_array, walk_text, Ran, Reason,
-    Refusal, State, MAX_MOVES,
+    accept, areas, bfs_folded, bfs_queue, check_image, dfs_array, dfs_parent, dfs_recursive, kind,
+    open, phase, read_profile, roll_back, run, shift_start, step, text_areas, to_array, walk_text,
+    Ran, Reason, Refusal, State, MAX_MOVES,
 };
 
 const TEXT: &[u8] = b"elements,references,start\n3,4,1\nfrom,to\n1,2\n1,3\n2,3\n3,1\n";
@@ -42,19 +42,26 @@ fn printed_events() -> Vec<u16> {
 fn opened() -> (State, [u16; 7], [u16; 4], [u16; 7]) {
     let mut marks = [9; 7];
     let mut events = [9; 3];
-    let state = open(3, 4, 1, &AFTER, &TAIL, &mut marks, &mut events).expect("a sound profile");
+    let state =
+        open(3, 4, 1, &AFTER, &TAIL, &[], &mut marks, &mut events).expect("a sound profile");
     assert_eq!(events, [1, 0, 1]);
     assert_eq!(*state.words(), [3, 4, 1, 1, 4, 0, 1, 2, 0]);
     assert_eq!(marks, [32_769, 0, 0, 0, 0, 0, 0]);
     (state, AFTER, TAIL, marks)
 }
 
-/// A walk of a profile in one run: its events, its moves and its marks.
-fn walked(n: u16, after: &[u16], tail: &[u16]) -> (Vec<u16>, u32, Vec<u16>) {
+/// A walk of a profile in one run, with elements already on the blank: its events, its moves, its marks and circular.
+fn walked_on(
+    n: u16,
+    after: &[u16],
+    tail: &[u16],
+    before: &[u16],
+) -> (Vec<u16>, u32, Vec<u16>, u16) {
     let m = tail.len() as u16;
     let mut marks = vec![9; after.len()];
     let mut events = vec![9; 3 + 6 * 40];
-    let mut state = open(n, m, 1, after, tail, &mut marks, &mut events).expect("a sound profile");
+    let opened = open(n, m, 1, after, tail, before, &mut marks, &mut events);
+    let mut state = opened.expect("a sound profile");
     let (mut bent_after, mut bent_tail) = (after.to_vec(), tail.to_vec());
     let ran = run(
         &mut state,
@@ -69,7 +76,13 @@ fn walked(n: u16, after: &[u16], tail: &[u16]) -> (Vec<u16>, u32, Vec<u16>) {
     assert_eq!(state.phase(), phase::ENDED);
     assert_eq!((&bent_after[..], &bent_tail[..]), (after, tail));
     events.truncate(3 * (1 + ran.events));
-    (events, ran.steps, marks)
+    (events, ran.steps, marks, state.circular())
+}
+
+/// A walk with nothing on the blank: its events, its moves and its marks.
+fn walked(n: u16, after: &[u16], tail: &[u16]) -> (Vec<u16>, u32, Vec<u16>) {
+    let (events, moves, marks, _) = walked_on(n, after, tail, &[]);
+    (events, moves, marks)
 }
 
 #[test]
@@ -124,7 +137,7 @@ fn card_1_and_2_events_and_moves() {
     assert_eq!(marks, [1, 2, 3, 0, 0, 0, 0]);
 
     let (mut marks, mut events) = ([9; 7], [9; 42]);
-    let tally = dfs_recursive(3, 4, 1, &AFTER, &TAIL, &mut marks, &mut events);
+    let tally = dfs_recursive(3, 4, 1, &AFTER, &TAIL, &[], &mut marks, &mut events);
     assert_eq!(tally.expect("a sound profile").0, [3, 2, 2, 2, 2, 3, 0]);
     assert_eq!(events.to_vec(), printed_events());
 }
@@ -169,7 +182,17 @@ fn card_4_winding_after_three_moves() {
 #[test]
 fn card_5_breadth_first() {
     let (mut marks, mut queue, mut events) = ([9; 7], [9; 3], [9; 42]);
-    let tally = bfs_queue(3, 4, 1, &AFTER, &TAIL, &mut marks, &mut queue, &mut events);
+    let tally = bfs_queue(
+        3,
+        4,
+        1,
+        &AFTER,
+        &TAIL,
+        &[],
+        &mut marks,
+        &mut queue,
+        &mut events,
+    );
     assert_eq!(tally.expect("a sound profile").events(), 10);
     let scans: Vec<u16> = events[..30]
         .chunks(3)
@@ -198,7 +221,7 @@ fn card_9_and_the_table_of_refusals() {
     assert_eq!(check_image(1, 4_001, &[], &[]), refused(2));
     assert_eq!(check_image(2, 1, &[0; 2], &[1]), refused(3));
     let (mut marks, mut events) = ([0; 2], [0; 12]);
-    let walk = dfs_recursive(2, 0, 3, &[0, 0], &[], &mut marks, &mut events);
+    let walk = dfs_recursive(2, 0, 3, &[0, 0], &[], &[], &mut marks, &mut events);
     assert_eq!(walk.map(|_| ()), refused(4));
     assert_eq!(check_image(1, 1, &[1, 0], &[1]), refused(5));
     assert_eq!(check_image(1, 1, &[2, 0], &[0]), refused(6));
@@ -236,6 +259,7 @@ fn the_two_corrections() {
         1,
         &firsts,
         &mut tails,
+        &[],
         &mut marks,
         &mut increments,
         &mut events,
@@ -253,12 +277,194 @@ fn the_two_corrections() {
         1,
         &after,
         &tail,
+        &[],
         &mut marks,
         &mut parents,
         &mut events,
     );
     assert!(tally.is_ok());
     assert_eq!(parents, [0, 0, 4]);
+}
+
+#[test]
+fn the_printed_example_with_elements_on_the_blank() {
+    // With 3 on the blank, the references to it are nontree, the one from it is not met, and there is no circle.
+    let (events, moves, marks, circular) = walked_on(3, &AFTER, &TAIL, &[3]);
+    let expected = [
+        [1, 0, 1],
+        [2, 4, 1],
+        [1, 0, 2],
+        [3, 6, 2],
+        [4, 6, 2],
+        [6, 0, 2],
+        [5, 4, 1],
+        [3, 5, 1],
+        [4, 5, 1],
+        [6, 0, 1],
+    ];
+    assert_eq!(events, expected.concat());
+    assert_eq!((moves, circular), (8, 0));
+    assert_eq!(marks, [1, 2, 65_535, 0, 0, 0, 0]);
+
+    let (events, moves, marks, circular) = walked_on(3, &AFTER, &TAIL, &[2, 3]);
+    let expected = [
+        [1, 0, 1],
+        [3, 4, 1],
+        [4, 4, 1],
+        [3, 5, 1],
+        [4, 5, 1],
+        [6, 0, 1],
+    ];
+    assert_eq!(events, expected.concat());
+    assert_eq!((moves, circular), (5, 0));
+    assert_eq!(marks, [1, 65_535, 65_535, 0, 0, 0, 0]);
+
+    // With 2 on the blank, 1 and 3 are still on a circle.
+    let (_, moves, marks, circular) = walked_on(3, &AFTER, &TAIL, &[2]);
+    assert_eq!((moves, circular), (8, 1));
+    assert_eq!(marks, [1, 65_535, 2, 0, 0, 0, 0]);
+}
+
+#[test]
+fn wound_back_with_an_element_on_the_blank() {
+    for moves in 0..8 {
+        let (mut after, mut tail, mut marks) = (AFTER, TAIL, [9; 7]);
+        let opened = open(3, 4, 1, &AFTER, &TAIL, &[3], &mut marks, &mut [0; 3]);
+        let mut state = opened.expect("a sound profile");
+        assert_eq!(marks, [32_769, 0, 65_535, 0, 0, 0, 0]);
+        for _ in 0..moves {
+            step(&mut state, &mut after, &mut tail, &mut marks, &mut [0; 6]).expect("a move");
+        }
+        roll_back(&mut state).expect("a walk under way");
+        while state.phase() != phase::WITHDRAWN {
+            step(&mut state, &mut after, &mut tail, &mut marks, &mut [0; 6]).expect("a move");
+        }
+        assert_eq!((after, tail), (AFTER, TAIL));
+        assert_eq!(marks, [0, 0, 65_535, 0, 0, 0, 0]);
+    }
+}
+
+#[test]
+fn breadth_first_with_an_element_on_the_blank() {
+    let (mut marks, mut queue, mut events) = ([9; 7], [9; 3], [9; 42]);
+    let tally = bfs_queue(
+        3,
+        4,
+        1,
+        &AFTER,
+        &TAIL,
+        &[3],
+        &mut marks,
+        &mut queue,
+        &mut events,
+    );
+    assert_eq!(tally.expect("a sound profile").0, [2, 0, 0, 0, 0, 2, 3]);
+    let expected = [
+        [1, 0, 1],
+        [7, 4, 1],
+        [1, 0, 2],
+        [7, 5, 1],
+        [6, 0, 1],
+        [7, 6, 2],
+        [6, 0, 2],
+    ];
+    assert_eq!(events[..21], expected.concat());
+    assert_eq!(queue, [1, 2, 0]);
+    assert_eq!(marks, [1, 2, 65_535, 0, 0, 0, 0]);
+
+    let (mut marks, mut folded_events, mut after) = ([9; 7], [9; 42], AFTER);
+    let folded = bfs_folded(
+        3,
+        4,
+        1,
+        &mut after,
+        &TAIL,
+        &[3],
+        &mut marks,
+        &mut folded_events,
+    );
+    assert_eq!(folded, tally);
+    assert_eq!((after, folded_events), (AFTER, events));
+    assert_eq!(marks, [1, 2, 65_535, 0, 0, 0, 0]);
+}
+
+#[test]
+fn parents_and_increments_with_an_element_on_the_blank() {
+    // 1 refers to 3 and 2, 2 to 3 and 4; 3, on the blank, has neither parent nor increment.
+    let (after, tail) = ([5, 7, 0, 0, 6, 0, 8, 0], [3, 2, 3, 4]);
+    let (mut marks, mut parents, mut events) = ([9; 8], [9; 4], [9; 48]);
+    let tally = dfs_parent(
+        4,
+        4,
+        1,
+        &after,
+        &tail,
+        &[3],
+        &mut marks,
+        &mut parents,
+        &mut events,
+    );
+    assert_eq!(tally.expect("a sound profile").0, [3, 2, 2, 2, 2, 3, 0]);
+    assert_eq!(parents, [0, 0, 0, 6]);
+    assert_eq!(marks, [1, 2, 65_535, 3, 0, 0, 0, 0]);
+
+    let (firsts, mut tails) = ([1, 3, 5, 5, 5], tail);
+    let (mut marks, mut increments) = ([9; 8], [9; 4]);
+    let walked = dfs_array(
+        4,
+        4,
+        1,
+        &firsts,
+        &mut tails,
+        &[3],
+        &mut marks,
+        &mut increments,
+        &mut events,
+    );
+    assert_eq!(walked, tally);
+    assert_eq!(increments, [2, 2, 0, 1]);
+    assert_eq!(marks, [1, 2, 65_535, 3, 0, 0, 0, 0]);
+    assert_eq!(tails, tail);
+}
+
+/// The number with which an opening of the printed example is turned back; it has changed nothing.
+fn opening_number(start: u16, after: &[u16], before: &[u16]) -> u16 {
+    let (mut marks, mut events) = ([9; 7], [9; 3]);
+    let opened = open(3, 4, start, after, &TAIL, before, &mut marks, &mut events);
+    assert_eq!((marks, events), ([9; 7], [9; 3]));
+    opened.expect_err("turned back").0
+}
+
+#[test]
+fn the_numbers_of_lists() {
+    for before in [
+        &[0][..],
+        &[2, 2],
+        &[4],
+        &[3, 2],
+        &[2, 3, 3, 3],
+        &[0, 0, 0, 0, 0],
+        &[65_535],
+    ] {
+        assert_eq!(opening_number(1, &AFTER, before), 17, "{before:?}");
+    }
+    // The whole list is judged before the start is looked for on it.
+    for before in [&[2, 1][..], &[1, 1], &[1, 4], &[0, 1], &[1, 2, 3, 1]] {
+        assert_eq!(opening_number(1, &AFTER, before), 17, "{before:?}");
+    }
+    for before in [&[1][..], &[1, 2], &[1, 3], &[1, 2, 3]] {
+        assert_eq!(opening_number(1, &AFTER, before), 18, "{before:?}");
+    }
+    assert_eq!(opening_number(3, &AFTER, &[1, 2, 3]), 18);
+    // The image comes before the list, and the start before both.
+    let twice = [4, 6, 7, 5, 0, 6, 0];
+    assert_eq!(opening_number(1, &twice, &[0]), 7);
+    assert_eq!(opening_number(1, &twice, &[1]), 7);
+    assert_eq!(opening_number(4, &AFTER, &[4]), 4);
+    assert_eq!(opening_number(4, &twice, &[4]), 4);
+
+    let one = open(1, 0, 1, &[0], &[], &[1], &mut [0], &mut [0; 3]);
+    assert_eq!(one.map(|_| ()), Err(Refusal(18)));
 }
 
 #[test]

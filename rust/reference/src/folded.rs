@@ -1,6 +1,7 @@
 //! The folded depth-first walk on any words. A move is made on a copy of everything lent; where a word turns out to be
 //! out of kind the copy is thrown away.
 
+use crate::blank::{self, ON_THE_BLANK};
 use crate::image::lists;
 use crate::search::Event;
 use crate::sizes::{number_of, refuse, Sizes};
@@ -11,7 +12,7 @@ pub const SPENT: u16 = 2;
 pub const STUCK: u16 = 3;
 
 /// What labelling adds to an element's number, and its scan takes away: a mark as large as this is of an element not
-/// yet scanned.
+/// yet scanned, unless it is that of an element already on the blank.
 const NOT_YET_SCANNED: u16 = 32_768;
 
 /// The words of a state by name.
@@ -242,7 +243,7 @@ impl Config {
             Move::Nontree => {
                 self.pass(e, f)?;
                 let to = *self.t(e);
-                if *self.mark(to) >= NOT_YET_SCANNED {
+                if (NOT_YET_SCANNED..ON_THE_BLANK).contains(self.mark(to)) {
                     self.fields.circular = 1;
                 }
                 Ok(vec![[3, e, v], [4, e, v]])
@@ -265,7 +266,9 @@ impl Config {
             }
             Move::LastWindingClose => {
                 self.close_start(v, e)?;
-                self.marks[..self.sizes.n].fill(0);
+                let elements = &mut self.marks[..self.sizes.n];
+                let cleared = elements.iter_mut().filter(|mark| **mark != ON_THE_BLANK);
+                cleared.for_each(|mark| *mark = 0);
                 self.fields.phase = 5;
                 Ok(vec![])
             }
@@ -337,7 +340,7 @@ impl Config {
     }
 }
 
-/// Opens a walk: 1, 2, 3, 4, 5, 6, 7.
+/// Opens a walk: 1, 2, 3, 4, 5, 6, 7, 17, 18.
 #[allow(clippy::too_many_arguments)]
 pub fn open(
     n: u16,
@@ -345,6 +348,7 @@ pub fn open(
     start: u16,
     after: &[u16],
     tail: &[u16],
+    before: &[u16],
     marks: &mut [u16],
     events: &mut [u16],
     state: &mut [u16],
@@ -359,7 +363,9 @@ pub fn open(
         refuse(3, short)?;
         refuse(4, !sizes.element(start))?;
         let profile = lists(sizes, after, tail)?;
+        blank::judge(sizes, start, before)?;
         marks[..sizes.nodes()].fill(0);
+        blank::mark(marks, before);
         marks[usize::from(start) - 1] = NOT_YET_SCANNED + 1;
         events[..3].copy_from_slice(&[1, 0, start]);
         let first = profile.list(start).first();

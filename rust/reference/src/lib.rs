@@ -10,6 +10,7 @@
 #![forbid(unsafe_code)]
 
 mod array;
+mod blank;
 mod folded;
 mod image;
 mod panel;

@@ -1,6 +1,7 @@
 //! The folded walk of a sound profile as a path of elements, and what the bent links and the marks look like for such
 //! a path. No word is bent here: each picture is drawn anew from the lists as loaded.
 
+use crate::blank::mark;
 use crate::image::{Profile, Reference};
 use crate::search::Event;
 
@@ -19,6 +20,8 @@ struct OnPath {
 pub struct Walk<'a> {
     profile: &'a Profile,
     start: u16,
+    /// The elements already on the blank.
+    blank: Vec<u16>,
     path: Vec<OnPath>,
     labels: Vec<u16>,
     /// The elements scanned, in order. Those that a winding leaves are not among them.
@@ -38,11 +41,12 @@ pub struct Words {
 }
 
 impl<'a> Walk<'a> {
-    /// The walk as opened.
-    pub fn open(profile: &'a Profile, start: u16) -> Walk<'a> {
+    /// The walk as opened with a good list of elements already on the blank.
+    pub fn open(profile: &'a Profile, start: u16, before: &[u16]) -> Walk<'a> {
         let mut walk = Walk {
             profile,
             start,
+            blank: before.to_vec(),
             path: Vec::new(),
             labels: vec![0; profile.n + 1],
             scanned: Vec::new(),
@@ -95,7 +99,7 @@ impl<'a> Walk<'a> {
         let v = top.element;
         let list = profile.list(v);
         if let (1, Some(&Reference { number, to })) = (self.phase, list.get(top.behind)) {
-            if self.labels[usize::from(to)] == 0 {
+            if self.labels[usize::from(to)] == 0 && !self.blank.contains(&to) {
                 top.tree = Some(number);
                 self.enter(to);
                 return vec![[2, number, v], [1, 0, to]];
@@ -137,7 +141,8 @@ impl<'a> Walk<'a> {
         }
     }
 
-    /// The n+m marks: the number of each element labelled, with 32,768 on top until it is scanned.
+    /// The n+m marks: the number of each element labelled, with 32,768 on top until it is scanned, and 65,535 for an
+    /// element already on the blank.
     fn marks(&self) -> Vec<u16> {
         let mut marks = vec![0; self.profile.n + self.profile.m];
         for (mark, &label) in marks.iter_mut().zip(&self.labels[1..]) {
@@ -148,6 +153,7 @@ impl<'a> Walk<'a> {
         for &element in &self.scanned {
             marks[usize::from(element) - 1] = self.labels[usize::from(element)];
         }
+        mark(&mut marks, &self.blank);
         marks
     }
 

@@ -35,8 +35,8 @@ pub fn walk_text(
         }
     };
 
-    let search = depth_first(&profile, start);
-    let reach = Reach::from(&profile, start);
+    let search = depth_first(&profile, start, &[]);
+    let reach = Reach::from(&profile, start, &[]);
     let circular = u16::from(reach.circular(&profile));
 
     let mut lines = String::from("event,reference,element\n");

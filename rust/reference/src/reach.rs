@@ -1,6 +1,7 @@
-//! The elements reached, the references met and the circles among them, by paths and not by a search.
+//! The elements reached, the references met and the circles among them, by paths and not by a search. A path keeps to
+//! elements that are not on the blank.
 
-use crate::image::Profile;
+use crate::image::{Profile, Reference};
 
 /// What can be reached from a start.
 pub struct Reach {
@@ -12,8 +13,8 @@ pub struct Reach {
 }
 
 impl Reach {
-    /// Takes in the ends of references that leave the set until it no longer grows.
-    pub fn from(profile: &Profile, start: u16) -> Reach {
+    /// Takes in the ends of references that leave the set, but none already on the blank, until it no longer grows.
+    pub fn from(profile: &Profile, start: u16, before: &[u16]) -> Reach {
         let mut within = vec![false; profile.n + 1];
         within[usize::from(start)] = true;
         loop {
@@ -21,7 +22,7 @@ impl Reach {
             for from in (1..=profile.n).rev() {
                 if within[from] {
                     for reference in &profile.lists[from] {
-                        within[usize::from(reference.to)] = true;
+                        within[usize::from(reference.to)] |= !before.contains(&reference.to);
                     }
                 }
             }
@@ -43,13 +44,19 @@ impl Reach {
         self.within[usize::from(element)]
     }
 
+    /// The references that lead from an element reached to an element reached.
+    fn inner<'a>(&'a self, profile: &'a Profile, from: u16) -> impl Iterator<Item = &'a Reference> {
+        let list = profile.list(from).iter();
+        list.filter(|reference| self.contains(reference.to))
+    }
+
     /// Whether some element reached has a path of one reference or more back to itself. Elements to which no element
     /// left refers are taken away until there is none of them; on a path back to itself every element is referred to,
     /// and where no such path is, the first element of a longest path among those left is referred to by none.
     pub fn circular(&self, profile: &Profile) -> bool {
         let mut referrers = vec![0_usize; profile.n + 1];
         let reached = (1..=profile.n as u16).filter(|&element| self.contains(element));
-        for reference in reached.clone().flat_map(|element| profile.list(element)) {
+        for reference in reached.clone().flat_map(|from| self.inner(profile, from)) {
             referrers[usize::from(reference.to)] += 1;
         }
         let mut left = self.reached;
@@ -58,7 +65,7 @@ impl Reach {
             .collect();
         while let Some(element) = to_take.pop() {
             left -= 1;
-            for reference in profile.list(element) {
+            for reference in self.inner(profile, element) {
                 let count = &mut referrers[usize::from(reference.to)];
                 *count -= 1;
                 if *count == 0 {

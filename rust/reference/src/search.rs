@@ -31,11 +31,21 @@ pub struct Search {
     pub order: Vec<u16>,
     /// The tree references in order of advancing.
     pub tree: Vec<TreeReference>,
+    /// The elements already on the blank.
+    blank: Vec<u16>,
 }
 
 impl Search {
+    /// Nothing labelled but the elements already on the blank.
+    fn of_blank(before: &[u16]) -> Search {
+        Search {
+            blank: before.to_vec(),
+            ..Search::default()
+        }
+    }
+
     fn labelled(&self, element: u16) -> bool {
-        self.order.contains(&element)
+        self.blank.contains(&element) || self.order.contains(&element)
     }
 
     fn label(&mut self, element: u16) {
@@ -44,9 +54,9 @@ impl Search {
     }
 }
 
-/// Depth-first search from the start.
-pub fn depth_first(profile: &Profile, start: u16) -> Search {
-    let mut search = Search::default();
+/// Depth-first search from the start, with a good list of elements already on the blank.
+pub fn depth_first(profile: &Profile, start: u16, before: &[u16]) -> Search {
+    let mut search = Search::of_blank(before);
     search_element(profile, start, &mut search);
     search
 }
@@ -72,10 +82,10 @@ fn search_element(profile: &Profile, element: u16, search: &mut Search) {
     search.events.push([SCAN, 0, element]);
 }
 
-/// Breadth-first search from the start. The elements at one distance are scanned in the order of their labels, which
-/// labels those at the next distance.
-pub fn breadth_first(profile: &Profile, start: u16) -> Search {
-    let mut search = Search::default();
+/// Breadth-first search from the start, with a good list of elements already on the blank. The elements at one distance
+/// are scanned in the order of their labels, which labels those at the next distance.
+pub fn breadth_first(profile: &Profile, start: u16, before: &[u16]) -> Search {
+    let mut search = Search::of_blank(before);
     search.label(start);
     let mut level = vec![start];
     while !level.is_empty() {

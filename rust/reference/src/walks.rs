@@ -1,6 +1,7 @@
 //! The five whole walks: their checks, and what they leave in the lent areas.
 
 use crate::array::grouped;
+use crate::blank;
 use crate::image::{lists, Profile};
 use crate::search::{breadth_first, depth_first, Search};
 use crate::sizes::{number_of, refuse, Sizes};
@@ -19,8 +20,9 @@ impl Lent<'_> {
             || self.tally.len() < 7
     }
 
-    fn leave(&mut self, sizes: Sizes, search: &Search) {
+    fn leave(&mut self, sizes: Sizes, before: &[u16], search: &Search) {
         self.marks[..sizes.nodes()].fill(0);
+        blank::mark(self.marks, before);
         for (label, &element) in (1..).zip(&search.order) {
             self.marks[usize::from(element) - 1] = label;
         }
@@ -38,19 +40,23 @@ impl Lent<'_> {
     }
 }
 
-/// The checks of a walk over a linked image, 1 to 7. `more` is true where a further area is too short.
+/// The checks of a walk over a linked image, 1 to 7, 17 and 18. `more` is true where a further area is too short.
+#[allow(clippy::too_many_arguments)]
 fn image_walk(
     sizes: Sizes,
     start: u16,
     after: &[u16],
     tail: &[u16],
+    before: &[u16],
     lent: &Lent<'_>,
     more: bool,
 ) -> Result<Profile, u16> {
     let short = after.len() < sizes.nodes() || tail.len() < sizes.m || lent.short(sizes) || more;
     refuse(3, short)?;
     refuse(4, !sizes.element(start))?;
-    lists(sizes, after, tail)
+    let profile = lists(sizes, after, tail)?;
+    blank::judge(sizes, start, before)?;
+    Ok(profile)
 }
 
 /// Depth-first by recursion.
@@ -61,6 +67,7 @@ pub fn dfs_recursive(
     start: u16,
     after: &[u16],
     tail: &[u16],
+    before: &[u16],
     marks: &mut [u16],
     events: &mut [u16],
     tally: &mut [u32],
@@ -72,8 +79,8 @@ pub fn dfs_recursive(
     };
     number_of((|| {
         let sizes = Sizes::judged(n, m)?;
-        let profile = image_walk(sizes, start, after, tail, &lent, false)?;
-        lent.leave(sizes, &depth_first(&profile, start));
+        let profile = image_walk(sizes, start, after, tail, before, &lent, false)?;
+        lent.leave(sizes, before, &depth_first(&profile, start, before));
         Ok(())
     })())
 }
@@ -86,6 +93,7 @@ pub fn dfs_parent(
     start: u16,
     after: &[u16],
     tail: &[u16],
+    before: &[u16],
     marks: &mut [u16],
     parents: &mut [u16],
     events: &mut [u16],
@@ -99,9 +107,9 @@ pub fn dfs_parent(
     number_of((|| {
         let sizes = Sizes::judged(n, m)?;
         let more = parents.len() < sizes.n;
-        let profile = image_walk(sizes, start, after, tail, &lent, more)?;
-        let search = depth_first(&profile, start);
-        lent.leave(sizes, &search);
+        let profile = image_walk(sizes, start, after, tail, before, &lent, more)?;
+        let search = depth_first(&profile, start, before);
+        lent.leave(sizes, before, &search);
         // The tree reference into an element, 0 for the start and the unreached.
         let into = |element: u16| {
             let found = search.tree.iter().find(|tree| tree.reference.to == element);
@@ -123,6 +131,7 @@ pub fn dfs_array(
     start: u16,
     firsts: &[u16],
     tails: &mut [u16],
+    before: &[u16],
     marks: &mut [u16],
     increments: &mut [u16],
     events: &mut [u16],
@@ -142,8 +151,9 @@ pub fn dfs_array(
         refuse(3, short)?;
         refuse(4, !sizes.element(start))?;
         let profile = grouped(sizes, firsts, tails)?;
-        let search = depth_first(&profile, start);
-        lent.leave(sizes, &search);
+        blank::judge(sizes, start, before)?;
+        let search = depth_first(&profile, start, before);
+        lent.leave(sizes, before, &search);
         for element in 1..=sizes.n as u16 {
             let reached = search.order.contains(&element);
             let own = search.tree.iter().filter(|tree| tree.from == element);
@@ -162,6 +172,7 @@ pub fn bfs_queue(
     start: u16,
     after: &[u16],
     tail: &[u16],
+    before: &[u16],
     marks: &mut [u16],
     queue: &mut [u16],
     events: &mut [u16],
@@ -175,9 +186,9 @@ pub fn bfs_queue(
     number_of((|| {
         let sizes = Sizes::judged(n, m)?;
         let more = queue.len() < sizes.n;
-        let profile = image_walk(sizes, start, after, tail, &lent, more)?;
-        let search = breadth_first(&profile, start);
-        lent.leave(sizes, &search);
+        let profile = image_walk(sizes, start, after, tail, before, &lent, more)?;
+        let search = breadth_first(&profile, start, before);
+        lent.leave(sizes, before, &search);
         queue[..sizes.n].fill(0);
         queue[..search.order.len()].copy_from_slice(&search.order);
         Ok(())
@@ -192,6 +203,7 @@ pub fn bfs_folded(
     start: u16,
     after: &mut [u16],
     tail: &[u16],
+    before: &[u16],
     marks: &mut [u16],
     events: &mut [u16],
     tally: &mut [u32],
@@ -203,8 +215,8 @@ pub fn bfs_folded(
     };
     number_of((|| {
         let sizes = Sizes::judged(n, m)?;
-        let profile = image_walk(sizes, start, after, tail, &lent, false)?;
-        lent.leave(sizes, &breadth_first(&profile, start));
+        let profile = image_walk(sizes, start, after, tail, before, &lent, false)?;
+        lent.leave(sizes, before, &breadth_first(&profile, start, before));
         Ok(())
     })())
 }

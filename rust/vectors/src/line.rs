@@ -12,6 +12,7 @@ pub struct Line<'a> {
     state: [u16; 9],
     after: Vec<u16>,
     tail: Vec<u16>,
+    before: Vec<u16>,
     marks: Vec<u16>,
     figure: u32,
     text: String,
@@ -29,12 +30,20 @@ impl<'a> Line<'a> {
             state: [0; 9],
             after: profile.after.clone(),
             tail: profile.tail.clone(),
+            before: Vec::new(),
             marks: vec![0; profile.after.len()],
             figure: 0,
             text: String::new(),
         };
         line.write_links();
+        line.lend(&profile.before);
         line
+    }
+
+    /// The list that openings are lent from here on: elements already on the blank.
+    pub fn lend(&mut self, before: &[u16]) {
+        self.before = before.to_vec();
+        writeln!(self.text, "before{}", joined(before)).unwrap();
     }
 
     pub fn into_text(self) -> String {
@@ -104,6 +113,7 @@ impl<'a> Line<'a> {
             self.profile.start,
             &self.after,
             &self.tail,
+            &self.before,
             &mut self.marks,
             &mut events,
             &mut self.state,

@@ -52,6 +52,7 @@ fn main() -> Result<()> {
     let mut written = BTreeMap::new();
     for profile in &profiles {
         write(folder, "profiles", profile.name, &profile.text)?;
+        write(folder, "blanks", profile.name, &profile.blank())?;
         let answers = answers(profile);
         for (part, text) in &answers {
             write(folder, part, profile.name, text)?;
@@ -66,5 +67,7 @@ fn main() -> Result<()> {
         write(folder, "refused/texts", name, &text)?;
     }
     write(folder, "refused", "texts", &refused::text_numbers())?;
-    write(folder, "refused", "images", &refused::images())
+    write(folder, "refused", "images", &refused::images())?;
+    write(folder, "refused", "lists", &refused::lists())?;
+    write(folder, "refused", "arrays", &refused::arrays())
 }

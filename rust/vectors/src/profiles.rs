@@ -9,6 +9,8 @@ pub struct Profile {
     pub start: u16,
     pub after: Vec<u16>,
     pub tail: Vec<u16>,
+    /// The elements already on the blank.
+    pub before: Vec<u16>,
     pub text: String,
 }
 
@@ -47,8 +49,23 @@ impl Profile {
             start: read.start,
             after,
             tail,
+            before: Vec::new(),
             text,
         }
+    }
+
+    /// The same profile with these elements already on the blank.
+    fn on_blank(self, before: &[u16]) -> Self {
+        Profile {
+            before: before.to_vec(),
+            ..self
+        }
+    }
+
+    /// The elements already on the blank, one to a line.
+    pub fn blank(&self) -> String {
+        let lines = self.before.iter().map(|element| format!("{element}\n"));
+        String::from("element\n") + &lines.collect::<String>()
     }
 
     /// As many moves as the longest walk of a profile of this size makes.
@@ -76,13 +93,16 @@ fn drawn(n: u16, m: u16) -> Vec<(u16, u16)> {
     lines
 }
 
-/// The profiles: small ones, which are walked in every way, and the largest.
+/// The profiles: small ones, which are walked in every way, and the largest; then some with elements already on the blank.
 pub fn all() -> Vec<Profile> {
     let chain: Vec<_> = (1..10).map(|u| (u, u + 1)).collect();
     let star: Vec<_> = (2..=10).chain(2..=10).map(|x| (1, x)).collect();
     let dense: Vec<_> = (1..=6).flat_map(|u| (1..=6).map(move |x| (u, x))).collect();
     let printed = [(1, 2), (1, 3), (2, 3), (3, 1)];
     let start = [(4, 2), (3, 4), (1, 3), (2, 3), (3, 2), (4, 4)];
+    let file = [(1, 2), (1, 3), (2, 3)];
+    let circle = [(1, 2), (2, 3), (3, 4), (4, 1)];
+    let some: Vec<_> = (2..=20).step_by(3).collect();
     vec![
         Profile::new("printed", 3, 1, &printed),
         Profile::padded("padded", 3, 1, &printed, &[5]),
@@ -96,8 +116,8 @@ pub fn all() -> Vec<Profile> {
             1,
             &[(1, 2), (1, 3), (2, 4), (3, 4), (3, 5), (4, 5)],
         ),
-        Profile::new("file", 3, 1, &[(1, 2), (1, 3), (2, 3)]),
-        Profile::new("circle", 4, 1, &[(1, 2), (2, 3), (3, 4), (4, 1)]),
+        Profile::new("file", 3, 1, &file),
+        Profile::new("circle", 4, 1, &circle),
         Profile::new("behind", 4, 1, &[(1, 2), (1, 3), (2, 3), (3, 4), (4, 3)]),
         Profile::new("apart", 4, 1, &[(1, 2), (3, 2), (3, 4), (4, 3), (1, 2)]),
         Profile::new("start", 4, 3, &start),
@@ -107,5 +127,12 @@ pub fn all() -> Vec<Profile> {
         Profile::new("dense", 6, 1, &dense),
         Profile::new("drawn", 20, 1, &drawn(20, 50)),
         Profile::new("largest", 1000, 1, &drawn(1000, 4000)),
+        Profile::new("printed_with_2", 3, 1, &printed).on_blank(&[2]),
+        Profile::new("printed_with_3", 3, 1, &printed).on_blank(&[3]),
+        Profile::new("printed_with_2_and_3", 3, 1, &printed).on_blank(&[2, 3]),
+        Profile::new("file_on_blank", 3, 1, &file).on_blank(&[3]),
+        Profile::new("circle_cut", 4, 1, &circle).on_blank(&[3]),
+        Profile::new("all_but_start", 4, 3, &start).on_blank(&[1, 2, 4]),
+        Profile::new("drawn_with_some", 20, 1, &drawn(20, 50)).on_blank(&some),
     ]
 }

@@ -1,6 +1,9 @@
-//! Texts and images that are turned back.
+//! Texts, images, array forms, and lists of elements already on the blank that are turned back.
 
-use profile_walker::{check_image, read_profile};
+use profile_walker::{
+    bfs_folded, bfs_queue, check_image, dfs_array, dfs_parent, dfs_recursive, open, read_profile,
+    to_array,
+};
 use std::fmt::Write;
 
 /// A name for each text that is turned back, with the text.
@@ -72,14 +75,156 @@ pub fn images() -> String {
     let mut rows = String::from("n,m,after,tail,number\n");
     for (n, m, after, tail) in cases {
         let number = check_image(n, m, after, tail).map_or_else(|k| k.0, |()| 0);
-        let spaced = |words: &[u16]| {
-            words
-                .iter()
-                .map(u16::to_string)
-                .collect::<Vec<_>>()
-                .join(" ")
-        };
         writeln!(rows, "{n},{m},{},{},{number}", spaced(after), spaced(tail)).unwrap();
+    }
+    rows
+}
+
+/// The words with a space between them.
+fn spaced(words: &[u16]) -> String {
+    let words: Vec<_> = words.iter().map(u16::to_string).collect();
+    words.join(" ")
+}
+
+/// An image with a start, whose after and tail words are as many as stated.
+struct Image<'a> {
+    n: u16,
+    m: u16,
+    start: u16,
+    after: &'a [u16],
+    tail: &'a [u16],
+}
+
+/// Images, starts and lists of elements already on the blank.
+fn list_cases() -> [(Image<'static>, &'static [u16]); 24] {
+    let printed = |start: u16| Image {
+        n: 3,
+        m: 4,
+        start,
+        after: &[4, 6, 7, 5, 0, 0, 0],
+        tail: &[2, 3, 3, 1],
+    };
+    let one = || Image {
+        n: 1,
+        m: 0,
+        start: 1,
+        after: &[0],
+        tail: &[],
+    };
+    let on_two_lists = Image {
+        after: &[4, 6, 7, 5, 0, 6, 0],
+        ..printed(1)
+    };
+    let to_no_element = Image {
+        tail: &[2, 3, 4, 1],
+        ..printed(1)
+    };
+    [
+        (printed(1), &[]),
+        (printed(1), &[3]),
+        (printed(1), &[2, 3]),
+        (printed(1), &[0]),
+        (printed(1), &[4]),
+        (printed(1), &[65_535]),
+        (printed(1), &[2, 2]),
+        (printed(1), &[3, 2]),
+        (printed(1), &[2, 3, 4]),
+        (printed(1), &[2, 3, 3, 3]),
+        (printed(1), &[0, 1, 2, 3]),
+        (printed(1), &[2, 1]),
+        (printed(1), &[1, 1]),
+        (printed(1), &[1, 4]),
+        (printed(1), &[1]),
+        (printed(1), &[1, 2, 3]),
+        (printed(3), &[1, 2]),
+        (printed(3), &[1, 2, 3]),
+        (printed(4), &[4]),
+        (printed(4), &[0]),
+        (on_two_lists, &[0]),
+        (to_no_element, &[1]),
+        (one(), &[]),
+        (one(), &[1]),
+    ]
+}
+
+/// Lists with the number of each: n, m, start, the after words, the tail words, the list, the number.
+pub fn lists() -> String {
+    let mut rows = String::from("n,m,start,after,tail,before,number\n");
+    for (image, before) in list_cases() {
+        let Image {
+            n,
+            m,
+            start,
+            after,
+            tail,
+        } = image;
+        let number = list_number(&image, before);
+        let [after, tail, before] = [after, tail, before].map(spaced);
+        writeln!(rows, "{n},{m},{start},{after},{tail},{before},{number}").unwrap();
+    }
+    rows
+}
+
+/// The number of an opening, which every walk returns too. The array form is walked where the image can be converted.
+fn list_number(image: &Image, before: &[u16]) -> u16 {
+    let &Image {
+        n,
+        m,
+        start,
+        after,
+        tail,
+    } = image;
+    let (mut marks, mut own) = (vec![0; after.len()], vec![0; usize::from(n)]);
+    let mut events = vec![0; 6 * after.len()];
+    let (k, v, o) = (&mut marks, &mut events, &mut own);
+    let number = open(n, m, start, after, tail, before, k, v).map_or_else(|k| k.0, |_| 0);
+    let mut walks = vec![
+        dfs_recursive(n, m, start, after, tail, before, k, v),
+        dfs_parent(n, m, start, after, tail, before, k, o, v),
+        bfs_queue(n, m, start, after, tail, before, k, o, v),
+        bfs_folded(n, m, start, &mut after.to_vec(), tail, before, k, v),
+    ];
+    let mut firsts = vec![0; usize::from(n) + 1];
+    let (mut tails, mut numbers) = (tail.to_vec(), tail.to_vec());
+    if to_array(n, m, after, tail, &mut firsts, &mut tails, &mut numbers).is_ok() {
+        walks.push(dfs_array(n, m, start, &firsts, &mut tails, before, k, o, v));
+    }
+    for walk in walks {
+        assert_eq!(walk.map_or_else(|k| k.0, |_| 0), number);
+    }
+    number
+}
+
+/// A start, first positions, tails and a list.
+type ArrayCase = (u16, [u16; 4], [u16; 4], &'static [u16]);
+
+/// Array forms of three elements and four references with a list and the number of each: n, m, start, the first
+/// positions, the tails, the list, the number.
+pub fn arrays() -> String {
+    let (firsts, tails) = ([1, 3, 4, 5], [2, 3, 3, 1]);
+    let cases: [ArrayCase; 13] = [
+        (1, firsts, tails, &[]),
+        (1, firsts, tails, &[3]),
+        (1, firsts, tails, &[0]),
+        (1, firsts, tails, &[2, 1]),
+        (1, firsts, tails, &[1]),
+        (1, [0, 3, 4, 5], tails, &[]),
+        (1, [1, 3, 2, 5], tails, &[0]),
+        (1, [1, 3, 4, 6], tails, &[1]),
+        (1, firsts, [2, 3, 4, 1], &[]),
+        (1, firsts, [2, 3, 0, 1], &[0]),
+        (1, firsts, [2, 3, 4, 1], &[1]),
+        (4, firsts, tails, &[4]),
+        (0, [0, 3, 4, 5], tails, &[0]),
+    ];
+    let mut rows = String::from("n,m,start,firsts,tails,before,number\n");
+    for (start, firsts, mut tails, before) in cases {
+        let (mut marks, mut increments, mut events) = ([0; 7], [0; 3], [0; 42]);
+        let (k, i, v) = (&mut marks, &mut increments, &mut events);
+        let walked = dfs_array(3, 4, start, &firsts, &mut tails, before, k, i, v);
+        let number = walked.map_or_else(|k| k.0, |_| 0);
+        let [firsts, tails, before] = [&firsts, &tails, before].map(spaced);
+        writeln!(rows, "3,4,{start},{firsts},{tails},{before},{number}").unwrap();
     }
     rows
 }

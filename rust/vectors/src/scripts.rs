@@ -48,6 +48,7 @@ pub fn turned_back(profile: &Profile) -> String {
     let mut line = Line::new(profile);
     line.step(6); // no state yet: 1
     line.open(2); // 3
+    bad_lists(&mut line, profile);
     line.open(3);
     line.accept(); // 10
     for budget in 0.. {
@@ -71,6 +72,28 @@ pub fn turned_back(profile: &Profile) -> String {
     line.run(profile.most_moves(), words(profile.most_moves()));
     line.accept(); // 9
     line.into_text()
+}
+
+/// Lists of elements already on the blank that are turned back; then the profile's own is lent again.
+fn bad_lists(line: &mut Line, profile: &Profile) {
+    let (n, start) = (profile.n, profile.start);
+    let too_long: Vec<_> = (1..=n).chain([n]).collect();
+    let lists: [&[u16]; 7] = [
+        &[0],
+        &[n + 1],
+        &[65_535],
+        &[n, n],
+        &[n + 1, start],
+        &too_long,
+        &[start], // 18
+    ];
+    for list in lists {
+        line.lend(list);
+        line.open(3); // 17 but for the last
+    }
+    line.lend(&[0]);
+    line.open(2); // 3
+    line.lend(&profile.before);
 }
 
 /// States, links and marks that no walk leaves: number 8, and runs that are stuck.
@@ -119,7 +142,7 @@ pub fn out_of_kind(profile: &Profile) -> String {
 pub fn marks(profile: &Profile) -> String {
     let mut line = Line::new(profile);
     for moves in 0..=2 {
-        for mark in [32_767, 32_768, 65_535] {
+        for mark in [32_767, 32_768, 65_534, 65_535] {
             for place in [Line::led_to, Line::v] {
                 open_with_mark(&mut line, moves, place, mark);
                 go_on(&mut line, profile);

@@ -2,12 +2,61 @@
 
 use crate::profiles::Profile;
 use profile_walker::{
-    bfs_folded, bfs_queue, dfs_array, dfs_parent, dfs_recursive, text_areas, to_array, walk_text,
+    bfs_folded, bfs_queue, dfs_array, dfs_parent, dfs_recursive, open, run, text_areas, to_array,
+    walk_text, Reason,
 };
 use std::fmt::Write;
 
-/// What the program `walk` prints.
+/// The folded walk as the program `walk` prints it, with the elements already on the blank.
 pub fn depth_first(profile: &Profile) -> String {
+    let walked = folded(profile);
+    if profile.before.is_empty() {
+        assert_eq!(walked, printed(profile));
+    }
+    walked
+}
+
+/// The events of an opening and of a run that ends the walk; then the elements reached, the moves and circular.
+fn folded(profile: &Profile) -> String {
+    let p = profile;
+    let (mut after, mut tail) = (p.after.clone(), p.tail.clone());
+    let mut marks = vec![0; p.after.len()];
+    let budget = p.most_moves();
+    let mut events = vec![0; 3 + 6 * budget as usize];
+    let mut state = open(
+        p.n,
+        p.m,
+        p.start,
+        &after,
+        &tail,
+        &p.before,
+        &mut marks,
+        &mut events,
+    )
+    .unwrap();
+    let ran = run(
+        &mut state,
+        budget,
+        &mut after,
+        &mut tail,
+        &mut marks,
+        &mut events[3..],
+    )
+    .unwrap();
+    assert_eq!(ran.reason, Reason::Ended);
+    let mut text = rows(&events[..3 * (1 + ran.events)]);
+    let elements = state.next_label() - 1;
+    let (moves, circular) = (ran.steps, state.circular());
+    write!(
+        text,
+        "elements,moves,circular\n{elements},{moves},{circular}\n"
+    )
+    .unwrap();
+    text
+}
+
+/// What the program `walk` prints.
+fn printed(profile: &Profile) -> String {
     let mut after = vec![0; text_areas::AFTER];
     let mut tail = vec![0; text_areas::TAIL];
     let mut marks = vec![0; text_areas::MARKS];
@@ -49,6 +98,7 @@ pub fn breadth_first_and_areas(profile: &Profile) -> (String, String) {
         p.start,
         &p.after,
         &p.tail,
+        &p.before,
         &mut depth,
         &mut events,
     )
@@ -62,6 +112,7 @@ pub fn breadth_first_and_areas(profile: &Profile) -> (String, String) {
         p.start,
         &p.after,
         &p.tail,
+        &p.before,
         &mut marks,
         &mut parents,
         &mut events,
@@ -86,6 +137,7 @@ pub fn breadth_first_and_areas(profile: &Profile) -> (String, String) {
         p.start,
         &firsts,
         &mut tails,
+        &p.before,
         &mut marks,
         &mut increments,
         &mut events,
@@ -98,6 +150,7 @@ pub fn breadth_first_and_areas(profile: &Profile) -> (String, String) {
         p.start,
         &p.after,
         &p.tail,
+        &p.before,
         &mut breadth,
         &mut queue,
         &mut events,
@@ -110,6 +163,7 @@ pub fn breadth_first_and_areas(profile: &Profile) -> (String, String) {
         p.start,
         &mut after,
         &p.tail,
+        &p.before,
         &mut marks,
         &mut events,
     );

@@ -1,7 +1,7 @@
 //! Breadth-first search: by a queue, and folded into the links.
 
 use super::judge;
-use super::log::Log;
+use super::log::{mark_blanks, Log};
 
 pub fn queue(
     n: u16,
@@ -9,6 +9,7 @@ pub fn queue(
     start: u16,
     after: &[u16],
     tail: &[u16],
+    before: &[u16],
     marks: &mut [u16],
     queue: &mut [u16],
     events: &mut [u16],
@@ -17,11 +18,11 @@ pub fn queue(
     let vertices = usize::from(n);
     let nodes = vertices + usize::from(m);
     let long = marks.len() >= nodes && events.len() >= 6 * nodes && queue.len() >= vertices;
-    let number = judge::walk(n, m, start, after, tail, long);
+    let number = judge::walk(n, m, start, after, tail, before, long);
     if number != 0 {
         return number;
     }
-    marks[..nodes].fill(0);
+    mark_blanks(&mut marks[..nodes], before);
     queue[..vertices].fill(0);
     let mut log = Log::new(events);
     log.label(marks, start);
@@ -64,6 +65,7 @@ pub fn folded_queue(
     start: u16,
     after: &mut [u16],
     tail: &[u16],
+    before: &[u16],
     marks: &mut [u16],
     events: &mut [u16],
     tally: &mut [u32; 7],
@@ -71,11 +73,11 @@ pub fn folded_queue(
     let vertices = usize::from(n);
     let nodes = vertices + usize::from(m);
     let long = marks.len() >= nodes && events.len() >= 6 * nodes;
-    let number = judge::walk(n, m, start, after, tail, long);
+    let number = judge::walk(n, m, start, after, tail, before, long);
     if number != 0 {
         return number;
     }
-    marks[..nodes].fill(0);
+    mark_blanks(&mut marks[..nodes], before);
     let mut log = Log::new(events);
     log.label(marks, start);
     let (mut v, mut f) = (start, last_node(after, start));

@@ -1,7 +1,7 @@
 //! Depth-first search: recursive, by parent edges, and over the array form.
 
 use super::judge;
-use super::log::DepthLog;
+use super::log::{mark_blanks, DepthLog, ON_THE_BLANK};
 
 struct Search<'a> {
     n: usize,
@@ -41,17 +41,18 @@ pub fn recursive(
     start: u16,
     after: &[u16],
     tail: &[u16],
+    before: &[u16],
     marks: &mut [u16],
     events: &mut [u16],
     tally: &mut [u32; 7],
 ) -> u16 {
     let nodes = usize::from(n) + usize::from(m);
     let long = marks.len() >= nodes && events.len() >= 6 * nodes;
-    let number = judge::walk(n, m, start, after, tail, long);
+    let number = judge::walk(n, m, start, after, tail, before, long);
     if number != 0 {
         return number;
     }
-    marks[..nodes].fill(0);
+    mark_blanks(&mut marks[..nodes], before);
     let mut walk = Search {
         n: usize::from(n),
         after: &after[..nodes],
@@ -70,6 +71,7 @@ pub fn parent(
     start: u16,
     after: &[u16],
     tail: &[u16],
+    before: &[u16],
     marks: &mut [u16],
     parents: &mut [u16],
     events: &mut [u16],
@@ -78,11 +80,11 @@ pub fn parent(
     let vertices = usize::from(n);
     let nodes = vertices + usize::from(m);
     let long = marks.len() >= nodes && events.len() >= 6 * nodes && parents.len() >= vertices;
-    let number = judge::walk(n, m, start, after, tail, long);
+    let number = judge::walk(n, m, start, after, tail, before, long);
     if number != 0 {
         return number;
     }
-    marks[..nodes].fill(0);
+    mark_blanks(&mut marks[..nodes], before);
     parents[..vertices].fill(0);
     let mut log = DepthLog::new(events);
     log.label(marks, start);
@@ -127,6 +129,7 @@ pub fn array(
     start: u16,
     firsts: &[u16],
     tails: &mut [u16],
+    before: &[u16],
     marks: &mut [u16],
     increments: &mut [u16],
     events: &mut [u16],
@@ -135,11 +138,11 @@ pub fn array(
     let vertices = usize::from(n);
     let nodes = vertices + usize::from(m);
     let long = marks.len() >= nodes && events.len() >= 6 * nodes && increments.len() >= vertices;
-    let number = judge::array_walk(n, m, start, firsts, tails, long);
+    let number = judge::array_walk(n, m, start, firsts, tails, before, long);
     if number != 0 {
         return number;
     }
-    marks[..nodes].fill(0);
+    mark_blanks(&mut marks[..nodes], before);
     increments[..vertices].fill(0);
     let mut log = DepthLog::new(events);
     log.label(marks, start);
@@ -149,7 +152,7 @@ pub fn array(
     loop {
         while e < firsts[usize::from(v)] {
             let x = tails[usize::from(e) - 1];
-            if increments[usize::from(x) - 1] == 0 {
+            if increments[usize::from(x) - 1] == 0 && marks[usize::from(x) - 1] != ON_THE_BLANK {
                 log.emit(2, n + e, v);
                 increments[usize::from(v) - 1] = e - firsts[usize::from(v) - 1] + 1;
                 tails[usize::from(e) - 1] = u;

@@ -1,6 +1,7 @@
 //! The folded depth-first search: opened, and run up to a budget.
 
 use super::judge::{self, is_link, is_vertex};
+use super::log::{mark_blanks, ON_THE_BLANK};
 
 #[derive(Clone, Copy)]
 pub struct State {
@@ -48,16 +49,17 @@ pub fn open(
     start: u16,
     after: &[u16],
     tail: &[u16],
+    before: &[u16],
     marks: &mut [u16],
     events: &mut [u16],
 ) -> Result<State, u16> {
     let nodes = usize::from(n) + usize::from(m);
     let long = marks.len() >= nodes && events.len() >= 3;
-    let number = judge::walk(n, m, start, after, tail, long);
+    let number = judge::walk(n, m, start, after, tail, before, long);
     if number != 0 {
         return Err(number);
     }
-    marks[..nodes].fill(0);
+    mark_blanks(&mut marks[..nodes], before);
     marks[usize::from(start) - 1] = 32769;
     events[..3].copy_from_slice(&[1, 0, start]);
     Ok(State {
@@ -118,7 +120,7 @@ impl Run<'_> {
             self.emit(4, e, v);
             self.s.e = next;
             self.s.f = e;
-            if mark >= 32768 {
+            if mark >= 32768 && mark != ON_THE_BLANK {
                 self.s.circular = 1;
             }
             return true;
@@ -165,7 +167,13 @@ impl Run<'_> {
         }
         self.after[usize::from(v) - 1] = self.s.e;
         if self.s.phase == 4 {
-            self.marks[..usize::from(self.s.n)].fill(0);
+            for mark in &mut self.marks[..usize::from(self.s.n)] {
+                *mark = if *mark == ON_THE_BLANK {
+                    ON_THE_BLANK
+                } else {
+                    0
+                };
+            }
             self.s.phase = 5;
         } else {
             self.marks[usize::from(v) - 1] %= 32768;

@@ -66,8 +66,32 @@ pub fn check_image(n: u16, m: u16, after: &[u16], tail: &[u16]) -> u16 {
     words(n, m, &after[..nodes], &tail[..edges])
 }
 
+/// 17 and 18 of the list of elements already on the blank.
+fn list(n: u16, start: u16, before: &[u16]) -> u16 {
+    let mut last = 0;
+    for &x in before {
+        if x <= last || x > n {
+            return 17;
+        }
+        last = x;
+    }
+    if before.contains(&start) {
+        18
+    } else {
+        0
+    }
+}
+
 /// The number of a walk or an opening; `long` where its other areas are as long as stated.
-pub fn walk(n: u16, m: u16, start: u16, after: &[u16], tail: &[u16], long: bool) -> u16 {
+pub fn walk(
+    n: u16,
+    m: u16,
+    start: u16,
+    after: &[u16],
+    tail: &[u16],
+    before: &[u16],
+    long: bool,
+) -> u16 {
     let number = sizes(n, m);
     if number != 0 {
         return number;
@@ -79,11 +103,23 @@ pub fn walk(n: u16, m: u16, start: u16, after: &[u16], tail: &[u16], long: bool)
     if !is_vertex(n, start) {
         return 4;
     }
-    words(n, m, &after[..nodes], &tail[..edges])
+    let number = words(n, m, &after[..nodes], &tail[..edges]);
+    if number != 0 {
+        return number;
+    }
+    list(n, start, before)
 }
 
 /// The number of a walk of an array form.
-pub fn array_walk(n: u16, m: u16, start: u16, firsts: &[u16], tails: &[u16], long: bool) -> u16 {
+pub fn array_walk(
+    n: u16,
+    m: u16,
+    start: u16,
+    firsts: &[u16],
+    tails: &[u16],
+    before: &[u16],
+    long: bool,
+) -> u16 {
     let number = sizes(n, m);
     if number != 0 {
         return number;
@@ -102,5 +138,5 @@ pub fn array_walk(n: u16, m: u16, start: u16, firsts: &[u16], tails: &[u16], lon
     if any_out(&tails[..edges], |x| !is_vertex(n, x)) {
         return 6;
     }
-    0
+    list(n, start, before)
 }

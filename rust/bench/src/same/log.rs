@@ -2,6 +2,17 @@
 
 use std::slice::ChunksExactMut;
 
+/// The mark of an element already on the blank.
+pub const ON_THE_BLANK: u16 = 65535;
+
+/// Clears the marks of all nodes, and marks the elements already on the blank.
+pub fn mark_blanks(marks: &mut [u16], before: &[u16]) {
+    marks.fill(0);
+    for &x in before {
+        marks[usize::from(x) - 1] = ON_THE_BLANK;
+    }
+}
+
 /// The part of an event area that is not written yet.
 struct Room<'a>(ChunksExactMut<'a, u16>);
 

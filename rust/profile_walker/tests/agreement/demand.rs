@@ -1,5 +1,6 @@
-//! Demand 3: line A walks a sound profile recursively, line B opens the same one for the folded walk and gets any list
-//! of calls. After every call of the list B is held to the demand, and to a picture of the walk that bends no links.
+//! Demand 3: line A walks a sound profile recursively, line B opens the same one for the folded walk, with the same
+//! elements already on the blank, and gets any list of calls. After every call of the list B is held to the demand, and
+//! to a picture of the walk that bends no links.
 
 use reference::{Reach, Walk};
 
@@ -8,12 +9,12 @@ use crate::profiles::{area, tally_area, Sound};
 use crate::rng::Rng;
 use crate::table::Table;
 
-/// What line A gives for a profile, and what is reached and met from its start.
+/// What line A gives for a profile, and what is reached and met from its start by paths off the blank.
 pub struct LineA {
     events: Vec<u16>,
     marks: Vec<u16>,
     pub reach: Reach,
-    /// 1 where some element reached has a path back to itself.
+    /// 1 where some element reached has a path back to itself off the blank.
     circular: u16,
 }
 
@@ -26,6 +27,7 @@ impl LineA {
             start: sound.start,
             after: sound.after.clone().into(),
             tail: sound.tail.clone().into(),
+            before: sound.before.clone().into(),
             marks: rng.noise(words),
             own: Vec::new().into(),
             events: rng.noise(6 * words),
@@ -34,7 +36,7 @@ impl LineA {
         let (number, left) = whole(table, Walker::Recursive, &lent);
         assert_eq!(number, 0);
         let count: u32 = left.tally.iter().sum();
-        let reach = Reach::from(&sound.profile, sound.start);
+        let reach = Reach::from(&sound.profile, sound.start, &sound.before);
         LineA {
             events: left.events[..3 * count as usize].to_vec(),
             marks: left.marks.to_vec(),
@@ -72,6 +74,7 @@ impl<'a> LineB<'a> {
             start: sound.start,
             after: area(rng, &sound.after, words + more),
             tail: area(rng, &sound.tail, sound.tail.len() + more),
+            before: sound.before.clone().into(),
             marks: rng.noise(words + more),
             events: rng.noise(3 + more),
             state: rng.noise(9),
@@ -91,7 +94,7 @@ impl<'a> LineB<'a> {
                 made: rng.word().into(),
                 reason: rng.word(),
             },
-            picture: Walk::open(&sound.profile, sound.start),
+            picture: Walk::open(&sound.profile, sound.start, &sound.before),
             emitted: 0,
             moves: 0,
             since_order: None,
@@ -186,6 +189,33 @@ impl<'a> LineB<'a> {
         assert_eq!(self.emitted, line_a.events.len());
         assert!(lent.marks.starts_with(&line_a.marks), "{lent:?}");
         assert_eq!(lent.state[8], line_a.circular, "{lent:?}");
+        self.check_marked();
+    }
+
+    /// At the end, 65,535 is on the elements already on the blank, a label number on those reached, and 0 elsewhere.
+    fn check_marked(&self) {
+        let LineB { sound, lent, .. } = self;
+        let reach = &self.line_a.reach;
+        for (element, &mark) in (1..=sound.n).zip(lent.marks.iter()) {
+            let on_blank = sound.before.contains(&element);
+            assert_eq!(mark == 65_535, on_blank, "{lent:?}");
+            let labelled = (1..=reach.reached).contains(&usize::from(mark));
+            assert_eq!(labelled, reach.contains(element), "{lent:?}");
+            assert!(labelled || on_blank || mark == 0, "{lent:?}");
+        }
+    }
+
+    /// Wound back, 65,535 is on the elements already on the blank and 0 elsewhere.
+    fn check_withdrawn(&self) {
+        let LineB { sound, lent, .. } = self;
+        for (node, &mark) in (1..).zip(&lent.marks[..sound.nodes()]) {
+            let rest = if sound.before.contains(&node) {
+                65_535
+            } else {
+                0
+            };
+            assert_eq!(mark, rest, "{lent:?}");
+        }
     }
 
     /// Demand 3, as it stands after any list of calls.
@@ -205,6 +235,9 @@ impl<'a> LineB<'a> {
                 assert!(phase == 4 || phase == 5);
                 assert!(since <= reach.met + reach.reached, "{lent:?}");
                 assert!(phase == 5 || since < reach.met + reach.reached, "{lent:?}");
+                if phase == 5 {
+                    self.check_withdrawn();
+                }
             }
         }
         if phase == 3 || phase == 5 {

@@ -14,6 +14,7 @@ const RUN_FAULT: &str = "run, stuck at";
 const ALIAS: &str = "step, words met twice";
 const LED_TO: &str = "nontree move made, mark of t(e)";
 const CLOSED: &str = "close made, mark of v";
+const RESTED: &str = "last winding close made, marks";
 
 pub fn compare(table: &mut Table) {
     let mut rng = Rng::new(6);
@@ -27,6 +28,10 @@ pub fn compare(table: &mut Table) {
     }
     for _ in 0..80_000 {
         let lent = marked(&mut rng);
+        calls(table, &mut rng, &lent);
+    }
+    for _ in 0..40_000 {
+        let lent = on_blank(&mut rng);
         calls(table, &mut rng, &lent);
     }
     for _ in 0..60_000 {
@@ -101,7 +106,7 @@ fn assert_all_met(table: &Table) {
 
 /// Nontree moves and closes were made on marks at, below and above every limit; nontree moves with either figure.
 fn assert_all_marks_met(table: &Table) {
-    let labelled = [1, 32_767, 32_768, 32_769, 65_535].map(limit);
+    let labelled = [1, 32_767, 32_768, 32_769, 65_534, 65_535].map(limit);
     for mark in labelled {
         for circular in [0, 1] {
             table.assert_met(LED_TO, &[&format!("{mark}, circular {circular}")]);
@@ -118,6 +123,12 @@ fn assert_all_marks_met(table: &Table) {
             table.assert_met(CLOSED, &[&format!("{which:?}, {mark}")]);
         }
     }
+    for node in ["an element but v", "a reference"] {
+        for mark in labelled.into_iter().chain([limit(0)]) {
+            table.assert_met(RESTED, &[&format!("{mark} on {node}")]);
+        }
+    }
+    table.assert_met(RESTED, &["65,535 on every node"]);
 }
 
 /// Where a mark lies, seen from the limits.
@@ -127,7 +138,8 @@ fn limit(mark: u16) -> &'static str {
         1..=32_766 => "below 32,767",
         32_767 => "32,767",
         32_768 => "32,768",
-        32_769..=65_534 => "above 32,768",
+        32_769..=65_533 => "above 32,768",
+        65_534 => "65,534",
         65_535 => "65,535",
     }
 }
@@ -193,7 +205,27 @@ fn meet_mark(table: &mut Table, lent: &Folded, to_come: ToCome) {
         Some(which) => {
             let mark = limit(lent.marks[usize::from(lent.state[3]) - 1]);
             table.meet(CLOSED, format!("{which:?}, {mark}"));
+            if which == Move::LastWindingClose {
+                meet_rested(table, lent);
+            }
         }
+    }
+}
+
+/// Counts the marks that stood, before the last move of a winding back, on elements and references.
+fn meet_rested(table: &mut Table, lent: &Folded) {
+    let (n, m, v) = (lent.state[0], lent.state[1], lent.state[3]);
+    let marks = &lent.marks[..usize::from(n + m)];
+    for (node, &mark) in (1..).zip(marks).filter(|(node, _)| *node != v) {
+        let kind = if node <= n {
+            "an element but v"
+        } else {
+            "a reference"
+        };
+        table.meet(RESTED, format!("{} on {kind}", limit(mark)));
+    }
+    if marks.iter().all(|&mark| mark == 65_535) {
+        table.meet(RESTED, "65,535 on every node");
     }
 }
 
@@ -356,7 +388,22 @@ fn marked(rng: &mut Rng) -> Folded {
     lent
 }
 
-/// A sound walk after any number of moves, with or without a winding order.
+/// Noise in which every mark, or every one but some, is 65,535.
+fn on_blank(rng: &mut Rng) -> Folded {
+    let mut lent = match rng.one_in(2) {
+        true => marked(rng),
+        false => aliased(rng),
+    };
+    let others = rng.one_in(2);
+    for mark in lent.marks.iter_mut() {
+        if !others || !rng.one_in(4) {
+            *mark = 65_535;
+        }
+    }
+    lent
+}
+
+/// A sound walk after any number of moves, with or without a winding order, and with elements already on the blank.
 fn under_way(table: &mut Table, rng: &mut Rng, sound: &Sound) -> Folded {
     let words = sound.nodes();
     let opening = Opening {
@@ -365,6 +412,7 @@ fn under_way(table: &mut Table, rng: &mut Rng, sound: &Sound) -> Folded {
         start: sound.start,
         after: sound.after.clone().into(),
         tail: sound.tail.clone().into(),
+        before: sound.before.clone().into(),
         marks: rng.noise(words),
         events: rng.noise(3),
         state: rng.noise(9),

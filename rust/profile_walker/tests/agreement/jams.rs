@@ -1,5 +1,6 @@
 //! A jam after every move: the walk goes on, or is wound back from there to the end.
 
+use crate::blanks;
 use crate::demand::{LineA, LineB};
 use crate::profiles::{every_list, shaped, small, sound, Sound};
 use crate::rng::Rng;
@@ -26,17 +27,25 @@ pub fn compare(table: &mut Table) {
     }
 }
 
-/// Every profile of up to three elements and up to three references, from every start.
+/// Every profile of up to three elements and up to three references, from every start, with every list of elements
+/// already on the blank.
 fn every_small_profile(table: &mut Table, rng: &mut Rng) {
     for n in 1..=3u16 {
         for m in 0..=3u32 {
             for pairs in every_list(n, m) {
                 for start in 1..=n {
-                    let sound = Sound::of(rng, usize::from(n), start, &pairs, false);
-                    jam(table, rng, &sound, 1);
+                    every_blank(table, rng, n, start, &pairs);
                 }
             }
         }
+    }
+}
+
+/// Jams of one profile with every list of elements already on the blank.
+fn every_blank(table: &mut Table, rng: &mut Rng, n: u16, start: u16, pairs: &[(u16, u16)]) {
+    for before in blanks::every(n, start) {
+        let sound = Sound::of(rng, usize::from(n), start, pairs, false).on_blank(&before);
+        jam(table, rng, &sound, 1);
     }
 }
 
@@ -57,7 +66,11 @@ fn jam(table: &mut Table, rng: &mut Rng, sound: &Sound, every: usize) {
             _ => line_b.step(table, rng, 6),
         }
     }
-    table.meet("walks jammed after every move", "profiles");
+    let kind = match sound.before.is_empty() {
+        true => "nothing on the blank",
+        false => "elements on the blank",
+    };
+    table.meet("walks jammed after every move", kind);
     at_rest(table, rng, &mut line_b);
 
     // The same walk in one run: with all its moves, one more and one less.

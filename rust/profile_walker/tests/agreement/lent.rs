@@ -53,8 +53,8 @@ pub struct Print {
     pub text: Area<u8>,
 }
 
-/// The whole walks. `after` and `tail` are first positions and tails for the array form; `own` is the parent, queue or
-/// increment area, empty for the walks without one.
+/// The whole walks. `before` lists the elements already on the blank. `after` and `tail` are first positions and tails
+/// for the array form; `own` is the parent, queue or increment area, empty for the walks without one.
 #[derive(Clone, Debug, PartialEq)]
 pub struct Whole {
     pub n: u16,
@@ -62,6 +62,7 @@ pub struct Whole {
     pub start: u16,
     pub after: Area<u16>,
     pub tail: Area<u16>,
+    pub before: Area<u16>,
     pub marks: Area<u16>,
     pub own: Area<u16>,
     pub tally: Area<u32>,
@@ -76,6 +77,7 @@ pub struct Opening {
     pub start: u16,
     pub after: Area<u16>,
     pub tail: Area<u16>,
+    pub before: Area<u16>,
     pub marks: Area<u16>,
     pub events: Area<u16>,
     pub state: Area<u16>,
@@ -314,31 +316,47 @@ pub fn whole(table: &mut Table, walker: Walker, lent: &Whole) -> (u16, Whole) {
 fn library_whole(walker: Walker, l: &mut Whole) -> Result<(), Refusal> {
     let (n, m, start) = (l.n, l.m, l.start);
     let (after, tail, own) = (&mut l.after, &mut l.tail, &mut l.own);
+    let before = &l.before;
     let (marks, events, tally) = (&mut l.marks, &mut l.events, &mut l.tally);
     match walker {
-        Walker::Recursive => areas::dfs_recursive(n, m, start, after, tail, marks, events, tally),
-        Walker::Parent => areas::dfs_parent(n, m, start, after, tail, marks, own, events, tally),
-        Walker::Array => areas::dfs_array(n, m, start, after, tail, marks, own, events, tally),
-        Walker::Queue => areas::bfs_queue(n, m, start, after, tail, marks, own, events, tally),
-        Walker::FoldedQueue => areas::bfs_folded(n, m, start, after, tail, marks, events, tally),
+        Walker::Recursive => {
+            areas::dfs_recursive(n, m, start, after, tail, before, marks, events, tally)
+        }
+        Walker::Parent => {
+            areas::dfs_parent(n, m, start, after, tail, before, marks, own, events, tally)
+        }
+        Walker::Array => {
+            areas::dfs_array(n, m, start, after, tail, before, marks, own, events, tally)
+        }
+        Walker::Queue => {
+            areas::bfs_queue(n, m, start, after, tail, before, marks, own, events, tally)
+        }
+        Walker::FoldedQueue => {
+            areas::bfs_folded(n, m, start, after, tail, before, marks, events, tally)
+        }
     }
 }
 
 fn reference_whole(walker: Walker, l: &mut Whole) -> u16 {
     let (n, m, start) = (l.n, l.m, l.start);
     let (after, tail, own) = (&mut l.after, &mut l.tail, &mut l.own);
+    let before = &l.before;
     let (marks, events, tally) = (&mut l.marks, &mut l.events, &mut l.tally);
     match walker {
         Walker::Recursive => {
-            reference::dfs_recursive(n, m, start, after, tail, marks, events, tally)
+            reference::dfs_recursive(n, m, start, after, tail, before, marks, events, tally)
         }
         Walker::Parent => {
-            reference::dfs_parent(n, m, start, after, tail, marks, own, events, tally)
+            reference::dfs_parent(n, m, start, after, tail, before, marks, own, events, tally)
         }
-        Walker::Array => reference::dfs_array(n, m, start, after, tail, marks, own, events, tally),
-        Walker::Queue => reference::bfs_queue(n, m, start, after, tail, marks, own, events, tally),
+        Walker::Array => {
+            reference::dfs_array(n, m, start, after, tail, before, marks, own, events, tally)
+        }
+        Walker::Queue => {
+            reference::bfs_queue(n, m, start, after, tail, before, marks, own, events, tally)
+        }
         Walker::FoldedQueue => {
-            reference::bfs_folded(n, m, start, after, tail, marks, events, tally)
+            reference::bfs_folded(n, m, start, after, tail, before, marks, events, tally)
         }
     }
 }
@@ -347,13 +365,14 @@ fn typed_whole(walker: Walker, l: &mut Whole) -> Result<(), Refusal> {
     use profile_walker::{bfs_folded, bfs_queue, dfs_array, dfs_parent, dfs_recursive};
     let (n, m, start) = (l.n, l.m, l.start);
     let (after, tail, own) = (&mut l.after, &mut l.tail, &mut l.own);
+    let before = &l.before;
     let (marks, events) = (&mut l.marks, &mut l.events);
     let tally = match walker {
-        Walker::Recursive => dfs_recursive(n, m, start, after, tail, marks, events),
-        Walker::Parent => dfs_parent(n, m, start, after, tail, marks, own, events),
-        Walker::Array => dfs_array(n, m, start, after, tail, marks, own, events),
-        Walker::Queue => bfs_queue(n, m, start, after, tail, marks, own, events),
-        Walker::FoldedQueue => bfs_folded(n, m, start, after, tail, marks, events),
+        Walker::Recursive => dfs_recursive(n, m, start, after, tail, before, marks, events),
+        Walker::Parent => dfs_parent(n, m, start, after, tail, before, marks, own, events),
+        Walker::Array => dfs_array(n, m, start, after, tail, before, marks, own, events),
+        Walker::Queue => bfs_queue(n, m, start, after, tail, before, marks, own, events),
+        Walker::FoldedQueue => bfs_folded(n, m, start, after, tail, before, marks, events),
     }?;
     l.tally = tally.0.to_vec().into();
     Ok(())
@@ -361,9 +380,9 @@ fn typed_whole(walker: Walker, l: &mut Whole) -> Result<(), Refusal> {
 
 pub fn open(table: &mut Table, lent: &Opening) -> (u16, Opening) {
     let typed = (lent.state.len() == STATE_WORDS).then_some(|l: &mut Opening| {
-        let (after, tail) = (&l.after, &l.tail);
+        let (after, tail, before) = (&l.after, &l.tail, &l.before);
         let (marks, events) = (&mut l.marks, &mut l.events);
-        let state = profile_walker::open(l.n, l.m, l.start, after, tail, marks, events)?;
+        let state = profile_walker::open(l.n, l.m, l.start, after, tail, before, marks, events)?;
         l.state = state.words().to_vec().into();
         Ok(())
     });
@@ -372,15 +391,15 @@ pub fn open(table: &mut Table, lent: &Opening) -> (u16, Opening) {
         "open",
         lent,
         |l| {
-            let (after, tail) = (&l.after, &l.tail);
+            let (after, tail, before) = (&l.after, &l.tail, &l.before);
             let (marks, events, state) = (&mut l.marks, &mut l.events, &mut l.state);
-            areas::open(l.n, l.m, l.start, after, tail, marks, events, state)
+            areas::open(l.n, l.m, l.start, after, tail, before, marks, events, state)
         },
         typed,
         |l| {
-            let (after, tail) = (&l.after, &l.tail);
+            let (after, tail, before) = (&l.after, &l.tail, &l.before);
             let (marks, events, state) = (&mut l.marks, &mut l.events, &mut l.state);
-            reference::open(l.n, l.m, l.start, after, tail, marks, events, state)
+            reference::open(l.n, l.m, l.start, after, tail, before, marks, events, state)
         },
     )
 }

@@ -4,6 +4,7 @@
 //! compared, and at the end a table of how many inputs of each call got which number.
 
 mod area;
+mod blanks;
 mod circles;
 mod demand;
 mod hostile;

@@ -32,14 +32,42 @@ fn every_set(order: &[u16], mut call: impl FnMut(&[u16], u16)) {
     }
 }
 
-/// An image of three elements and four references in which these conditions are true; for 3 every area but one may be
-/// longer, and that one is one word short.
+/// A list for three elements: out of order or past them, with the start on it, both or neither.
+fn list(rng: &mut Rng, out: bool, with_start: bool, start: u16) -> Vec<u16> {
+    let lists: &[&[u16]] = match out {
+        true => &[
+            &[0],
+            &[2, 2],
+            &[4],
+            &[3, 2],
+            &[2, 3, 65_535],
+            &[3, 0],
+            &[0, 2, 3],
+            &[2, 2, 3, 3, 3],
+        ],
+        false => &[&[], &[2], &[3], &[2, 3]],
+    };
+    let mut before = rng.pick(lists).to_vec();
+    if with_start {
+        // Behind a list out of order it stands anywhere, else in its place.
+        let place = match out {
+            true => rng.below(before.len() + 1),
+            false => before.partition_point(|&word| word < start),
+        };
+        before.insert(place, start);
+    }
+    before
+}
+
+/// An image of three elements and four references, a start and a list in which these conditions are true; for 3 every
+/// area but one may be longer, and that one is one word short. The list is of any length.
 struct Broken {
     n: u16,
     m: u16,
     start: u16,
     after: Vec<u16>,
     tail: Vec<u16>,
+    before: Vec<u16>,
     /// Which area is short.
     short: Option<usize>,
 }
@@ -63,6 +91,7 @@ impl Broken {
         if is(5) {
             after[3] = rng.pick(&[1, 3, 8, 65_535]);
         }
+        let start = if is(4) { rng.pick(&[0, 4, 65_535]) } else { 1 };
         Broken {
             n: if is(1) {
                 rng.pick(&[0, 1_001, 65_535])
@@ -70,9 +99,10 @@ impl Broken {
                 3
             },
             m: if is(2) { rng.pick(&[4_001, 65_535]) } else { 4 },
-            start: if is(4) { rng.pick(&[0, 4, 65_535]) } else { 1 },
+            start,
             after,
             tail,
+            before: list(rng, is(17), is(18), start),
             short: is(3).then(|| rng.below(areas)),
         }
     }
@@ -132,7 +162,7 @@ fn images(table: &mut Table, rng: &mut Rng) {
 }
 
 fn walks(table: &mut Table, rng: &mut Rng) {
-    let order = [1, 2, 3, 4, 5, 6, 7];
+    let order = [1, 2, 3, 4, 5, 6, 7, 17, 18];
     for walker in WALKERS {
         if walker == Walker::Array {
             continue;
@@ -147,6 +177,7 @@ fn walks(table: &mut Table, rng: &mut Rng) {
                 start: broken.start,
                 after,
                 tail,
+                before: broken.before.clone().into(),
                 marks: broken.noise(rng, 2, 7),
                 own: broken.noise(rng, 5, 3),
                 events: broken.noise(rng, 3, 42),
@@ -164,6 +195,7 @@ fn walks(table: &mut Table, rng: &mut Rng) {
             start: broken.start,
             after,
             tail,
+            before: broken.before.clone().into(),
             marks: broken.noise(rng, 2, 7),
             events: broken.noise(rng, 3, 3),
             state: broken.noise(rng, 4, 9),
@@ -173,7 +205,7 @@ fn walks(table: &mut Table, rng: &mut Rng) {
 }
 
 fn array_walks(table: &mut Table, rng: &mut Rng) {
-    every_set(&[1, 2, 3, 4, 5, 6], |conditions, expected| {
+    every_set(&[1, 2, 3, 4, 5, 6, 17, 18], |conditions, expected| {
         let mut broken = Broken::of(rng, conditions, 6);
         broken.after = vec![1, 3, 4, 5];
         if conditions.contains(&5) {
@@ -192,6 +224,7 @@ fn array_walks(table: &mut Table, rng: &mut Rng) {
             start: broken.start,
             after: broken.after.clone().into(),
             tail: broken.tail.clone().into(),
+            before: broken.before.clone().into(),
             marks: broken.noise(rng, 2, 7),
             own: broken.noise(rng, 5, 3),
             events: broken.noise(rng, 3, 42),

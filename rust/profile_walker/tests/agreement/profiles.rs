@@ -3,9 +3,10 @@
 use reference::{Profile, Reference};
 
 use crate::area::Area;
+use crate::blanks;
 use crate::rng::Rng;
 
-/// A sound profile, its lists and its links.
+/// A sound profile, its lists and its links, and the elements already on the blank.
 #[derive(Clone, Debug)]
 pub struct Sound {
     pub profile: Profile,
@@ -14,11 +15,12 @@ pub struct Sound {
     pub start: u16,
     pub after: Vec<u16>,
     pub tail: Vec<u16>,
+    pub before: Vec<u16>,
 }
 
 impl Sound {
-    /// The profile of these references, each from one element to another. With `mixed` their numbers are in any
-    /// order, else they rise as the references come.
+    /// The profile of these references, each from one element to another, and no element on the blank. With `mixed`
+    /// their numbers are in any order, else they rise as the references come.
     pub fn of(rng: &mut Rng, n: usize, start: u16, pairs: &[(u16, u16)], mixed: bool) -> Sound {
         let m = pairs.len();
         let mut numbers: Vec<u16> = (n as u16 + 1..=(n + m) as u16).collect();
@@ -38,7 +40,14 @@ impl Sound {
             start,
             after,
             tail,
+            before: Vec::new(),
         }
+    }
+
+    /// The same profile with these elements already on the blank.
+    pub fn on_blank(mut self, before: &[u16]) -> Sound {
+        self.before = before.to_vec();
+        self
     }
 
     /// How many nodes it has.
@@ -91,7 +100,8 @@ pub fn small(rng: &mut Rng) -> Sound {
     sound(rng, 12, 40)
 }
 
-/// A profile of exactly so many elements in one shape, with at most so many references.
+/// A profile of exactly so many elements in one shape, with at most so many references, some of its elements on the
+/// blank.
 pub fn shaped(rng: &mut Rng, shape: usize, n: usize, most_m: usize) -> Sound {
     let mut pairs: Vec<(usize, usize)> = Vec::new();
     let any = |rng: &mut Rng| (rng.between(1, n), rng.between(1, n));
@@ -169,7 +179,8 @@ pub fn shaped(rng: &mut Rng, shape: usize, n: usize, most_m: usize) -> Sound {
         .map(|&(from, to)| (names[from - 1], names[to - 1]))
         .collect();
     let mixed = rng.one_in(2);
-    Sound::of(rng, n, start, &named, mixed)
+    let before = blanks::good(rng, n as u16, start);
+    Sound::of(rng, n, start, &named, mixed).on_blank(&before)
 }
 
 /// The lengths of lent areas of which so many words are needed.
@@ -231,7 +242,7 @@ pub fn tally_area(rng: &mut Rng, length: usize) -> Area<u32> {
     words.into()
 }
 
-/// Breaks one thing of an image or its start: the number says which condition is then true. With no reference
+/// Breaks one thing of an image, its start or its list: the number says which condition is then true. With no reference
 /// there is nothing that 6 and 7 could break, and 5 breaks an element's word.
 pub fn damage(rng: &mut Rng, sound: &mut Sound, number: u16) {
     let (n, m) = (sound.profile.n, sound.profile.m);
@@ -240,6 +251,8 @@ pub fn damage(rng: &mut Rng, sound: &mut Sound, number: u16) {
         1 => sound.n = rng.pick(&[0, 1_001, 5_000, u16::MAX]),
         2 => sound.m = rng.pick(&[4_001, 4_002, 65_000, u16::MAX]),
         4 => sound.start = rng.pick(&[0, n as u16 + 1, nodes as u16 + 1, u16::MAX]),
+        17 => sound.before = blanks::bad(rng, n as u16, sound.start),
+        18 => sound.before = blanks::with_start(rng, n as u16, sound.start),
         5 => {
             let at = rng.below(nodes);
             let element = rng.between(1, n) as u16;

@@ -9,18 +9,21 @@ pub const CALLS: [(&str, &[u16]); 15] = [
     ("read_profile", &[0, 1, 2, 3, 4, 6, 12, 13]),
     ("to_array", &[0, 1, 2, 3, 5, 6, 7]),
     ("walk_text", &[0, 1, 2, 3, 4, 6, 12, 13]),
-    ("dfs_recursive", &[0, 1, 2, 3, 4, 5, 6, 7]),
-    ("dfs_parent", &[0, 1, 2, 3, 4, 5, 6, 7]),
-    ("dfs_array", &[0, 1, 2, 3, 4, 5, 6]),
-    ("bfs_queue", &[0, 1, 2, 3, 4, 5, 6, 7]),
-    ("bfs_folded", &[0, 1, 2, 3, 4, 5, 6, 7]),
-    ("open", &[0, 1, 2, 3, 4, 5, 6, 7]),
+    ("dfs_recursive", &[0, 1, 2, 3, 4, 5, 6, 7, 17, 18]),
+    ("dfs_parent", &[0, 1, 2, 3, 4, 5, 6, 7, 17, 18]),
+    ("dfs_array", &[0, 1, 2, 3, 4, 5, 6, 17, 18]),
+    ("bfs_queue", &[0, 1, 2, 3, 4, 5, 6, 7, 17, 18]),
+    ("bfs_folded", &[0, 1, 2, 3, 4, 5, 6, 7, 17, 18]),
+    ("open", &[0, 1, 2, 3, 4, 5, 6, 7, 17, 18]),
     ("step", &[0, 1, 2, 3, 4, 8, 9]),
     ("run", &[0, 1, 2, 3, 4, 8]),
     ("roll_back", &[0, 1, 2, 3, 4, 8, 9]),
     ("accept", &[0, 1, 2, 3, 4, 8, 9, 10, 11]),
     ("shift_start", &[0]),
 ];
+
+/// Every number with which a call can be turned back.
+const NUMBERS: [u16; 15] = [1, 2, 3, 4, 5, 6, 7, 8, 9, 10, 11, 12, 13, 17, 18];
 
 /// The numbers that a call can return.
 pub fn numbers_of(call: &str) -> &'static [u16] {
@@ -100,13 +103,13 @@ impl Table {
 impl fmt::Display for Table {
     fn fmt(&self, to: &mut fmt::Formatter<'_>) -> fmt::Result {
         write!(to, "{:14}{:>9}", "call", "taken")?;
-        for number in 1..=13 {
+        for number in NUMBERS {
             write!(to, "{number:>8}")?;
         }
         writeln!(to)?;
         for (call, numbers) in CALLS {
             write!(to, "{call:14}{:>9}", self.got(call, 0))?;
-            for number in 1..=13 {
+            for number in NUMBERS {
                 if numbers.contains(&number) {
                     write!(to, "{:>8}", self.got(call, number))?;
                 } else {
