@@ -5,10 +5,9 @@ use mathlib.Core.Logic.{_≢_}
 use mathlib.Core.Bool.{Bool, true, false, cond, _&&_, not}
 use mathlib.Core.List.{List}
 use Prim.Native.Nat.{ℕ}
-use native.Mathlib.Omega.{arith}
 use lib.ListN.{drop}
 use lib.Dec.{eqb, ltb, leb}
-use borrow.Author.Tests.{eqb-true, ne-eqb, le-leb, lt-leb}
+use borrow.Author.Tests.{eqb-true, eqb-false, ne-eqb, le-leb, lt-leb}
 use Rattle.lists.specs.Words.{at}
 use Rattle.lists.proofs.Words.{at-filled, filled-behind}
 use Rattle.graphs.specs.Results.{blankMark, restMark, marksRest}
@@ -42,14 +41,11 @@ rolling-step : (w : Config) → w .phase ≡ rollingBack → stepOf w ≡ pickSt
 rolling-step w p = picked w (ap (λ (k : ℕ). eqb k walking && not (eqb (w .e) 0)) p) refl (ap (λ (k : ℕ). eqb k rollingBack) p)
 
 -- The last one restores 65,535 where it stood.
-rolling-differs : rollingBack ≡ rolledBack → ⊥
-rolling-differs e = let k : rollingBack ≡ rolledBack = e in omega arith
-
 ended : (w : Config) (b c d : Bool) → w .phase ≡ rollingBack → enact w (pickStep false b c d true) .config .phase ≡ rolledBack → enact w (pickStep false b c d true) .config .marks ≡ marksRest (w .n) (w .marks)
 unfolding enact
-ended w b true d p e = absurd (rolling-differs (sym (ap (λ (k : ℕ). relinked (eqb k rollingBack)) p) ∙ e))
+ended w b true d p e = absurd (eqb-false rollingBack rolledBack refl (sym (ap (λ (k : ℕ). relinked (eqb k rollingBack)) p) ∙ e))
 ended w b false true p e = refl
-ended w b false false p e = absurd (rolling-differs (sym p ∙ e))
+ended w b false false p e = absurd (eqb-false rollingBack rolledBack refl (sym p ∙ e))
 
 last : (w : Config) → EndsRollBack w → step w .config .marks ≡ marksRest (w .n) (w .marks)
 last w (p, end) = rw (rolling-step w p) (ended w (fresh w) (ltb (w .n) (w .f)) (eqb (w .f) 0) p (rw (rolling-step w p) at end))

@@ -53,7 +53,3 @@ pub listed-of : (n : ℕ) (before : List ℕ) (start : ℕ) → blanksOut n befo
 listed-of n before start h s =
     let r = not-false (rises n 0 before) h in
     record { vertices = rises-within n 0 before r; once = rises-once n 0 before r; start-fresh = memb-false start before s }
-
--- No list: nothing is asked.
-pub listed-none : (n start : ℕ) → Listed n [] start
-listed-none n start = record { vertices = λ x m. absurd (mem-nil m); once = tt; start-fresh = λ m. mem-nil m }

@@ -1,5 +1,6 @@
 -- What the searches leave in the areas, and the array form, of three small profiles: the printed one, one whose element 1 refers to
--- itself before it refers to 2, and one whose element 1 refers to 2 twice.
+-- itself before it refers to 2, and one whose element 1 refers to 2 twice. Of the printed one also with element 3 on the blank, and the
+-- numbers of searches of its array form with lists.
 -- By computation on the definitions.
 use mathlib.Core.Path.{_≡_, refl}
 use mathlib.Core.Bool.{true}
@@ -11,7 +12,8 @@ use Rattle.graphs.specs.Events.{History, tally}
 use Rattle.graphs.specs.Search.{walkEdges, search, depthFirst, traverseAll, drain, breadthFirst}
 use Rattle.graphs.specs.Results.{marksLeft, queueLeft, parentLeft, incrementLeft}
 use Rattle.graphs.specs.Image.{Image, edgesOf, graphOf}
-use Rattle.graphs.specs.ArrayForm.{arrayOf, arrayGraph, inOrder, numbersOf}
+use Rattle.graphs.specs.ArrayForm.{ArrayForm, arrayOf, arrayGraph, inOrder, numbersOf}
+use Rattle.graphs.specs.Refusals.{tailOut, arraySearchNumber}
 
 abbrev printed : Image
 printed = record { n = 3; m = 4; after = 4 ∷ 6 ∷ 7 ∷ 5 ∷ 0 ∷ 0 ∷ 0 ∷ []; tail = 2 ∷ 3 ∷ 3 ∷ 1 ∷ [] }
@@ -63,3 +65,50 @@ increments-twice = (refl, refl)
 pub array-printed : (arrayOf printed .firsts ≡ 1 ∷ 3 ∷ 4 ∷ 5 ∷ []) × (arrayOf printed .tails ≡ 2 ∷ 3 ∷ 3 ∷ 1 ∷ []) × (numbersOf printed ≡ 4 ∷ 5 ∷ 6 ∷ 7 ∷ []) × (inOrder (arrayOf printed) ≡ true) × (arrayGraph (arrayOf printed) .out 1 ≡ 4 ∷ 5 ∷ [])
 unfolding at edgesOf
 array-printed = (refl, refl, refl, refl, refl)
+
+-- ---- element 3 on the blank: it is marked, and in the other areas it counts as unreached
+abbrev blank : List ℕ
+blank = 3 ∷ []
+
+pub marks-blank : marksLeft 7 blank (depthFirst (graphOf printed) blank 1) (lentArea 7) ≡ 1 ∷ 2 ∷ 65535 ∷ 0 ∷ 0 ∷ 0 ∷ 0 ∷ []
+unfolding at edgesOf walkEdges search depthFirst
+marks-blank = refl
+
+pub parents-blank : parentLeft (graphOf printed) (depthFirst (graphOf printed) blank 1) (lentArea 3) ≡ 0 ∷ 0 ∷ 0 ∷ []
+unfolding at edgesOf walkEdges search depthFirst
+parents-blank = refl
+
+pub increments-blank : incrementLeft (graphOf printed) (depthFirst (graphOf printed) blank 1) (lentArea 3) ≡ 1 ∷ 1 ∷ 0 ∷ []
+unfolding at edgesOf walkEdges search depthFirst
+increments-blank = refl
+
+pub queue-blank : queueLeft 3 (breadthFirst (graphOf printed) blank 1) (lentArea 3) ≡ 1 ∷ 2 ∷ 0 ∷ []
+unfolding at edgesOf traverseAll drain breadthFirst
+queue-blank = refl
+
+-- ---- numbers of a search of the array form
+-- The array form of the printed profile, with these first positions and tails.
+abbrev form : List ℕ → List ℕ → ArrayForm
+form firsts tails = record { n = 3; m = 4; firsts = firsts; tails = tails }
+
+abbrev firsts : List ℕ
+firsts = 1 ∷ 3 ∷ 4 ∷ 5 ∷ []
+
+abbrev tails : List ℕ
+tails = 2 ∷ 3 ∷ 3 ∷ 1 ∷ []
+
+-- 17 for a list out of order, also where the start is on it; 18 for the start.
+pub array-lists : (arraySearchNumber (form firsts tails) blank 1 [] ≡ 0) × (arraySearchNumber (form firsts tails) (2 ∷ 1 ∷ []) 1 [] ≡ 17) × (arraySearchNumber (form firsts tails) (1 ∷ []) 1 [] ≡ 18)
+unfolding at tailOut arraySearchNumber
+array-lists = (refl, refl, refl)
+
+-- Before them 4, 5 and 6.
+abbrev lateFirst : List ℕ
+lateFirst = 2 ∷ 3 ∷ 4 ∷ 5 ∷ []
+
+abbrev tailOfFour : List ℕ
+tailOfFour = 2 ∷ 3 ∷ 4 ∷ 1 ∷ []
+
+pub array-before-lists : (arraySearchNumber (form firsts tails) (4 ∷ []) 4 [] ≡ 4) × (arraySearchNumber (form lateFirst tails) (0 ∷ []) 1 [] ≡ 5) × (arraySearchNumber (form firsts tailOfFour) (1 ∷ []) 1 [] ≡ 6)
+unfolding at tailOut arraySearchNumber
+array-before-lists = (refl, refl, refl)

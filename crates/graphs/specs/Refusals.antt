@@ -116,10 +116,15 @@ searchNumber g before start areas = firstOf (sizeRefusals (g .n) (g .m) (imageAr
 abbrev pub arrayAreas : ArrayForm → List Lent
 arrayAreas a = lent (a .n + 1) (a .firsts) ∷ lent (a .m) (a .tails) ∷ []
 
+-- What the words of an array form show.
+abbrev pub arrayRefusals : ArrayForm → List Refusal
+arrayRefusals a = refuse 5 (firstOut a) ∷ refuse 6 (tailOut (a .n) (a .m) (a .tails)) ∷ []
+
 -- The number of a query of an array form.
 unfoldable pub arrayNumber : ArrayForm → ℕ → List Lent → ℕ
-arrayNumber a x areas = firstOf (sizeRefusals (a .n) (a .m) (arrayAreas a ++ areas) ++ refuse 4 (vertexOut (a .n) x) ∷ refuse 5 (firstOut a) ∷ refuse 6 (tailOut (a .n) (a .m) (a .tails)) ∷ [])
+arrayNumber a x areas = firstOf (sizeRefusals (a .n) (a .m) (arrayAreas a ++ areas) ++ refuse 4 (vertexOut (a .n) x) ∷ arrayRefusals a)
 
 -- The number of a search of an array form.
 unfoldable pub arraySearchNumber : ArrayForm → List ℕ → ℕ → List Lent → ℕ
-arraySearchNumber a before start areas = firstOf (sizeRefusals (a .n) (a .m) (arrayAreas a ++ areas) ++ refuse 4 (vertexOut (a .n) start) ∷ refuse 5 (firstOut a) ∷ refuse 6 (tailOut (a .n) (a .m) (a .tails)) ∷ blankRefusals (a .n) before start)
+arraySearchNumber a before start areas =
+    firstOf (sizeRefusals (a .n) (a .m) (arrayAreas a ++ areas) ++ refuse 4 (vertexOut (a .n) start) ∷ (arrayRefusals a ++ blankRefusals (a .n) before start))

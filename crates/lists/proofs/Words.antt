@@ -68,14 +68,6 @@ length-front ws k area e h = omega (arith, length-append ws (drop k area), lengt
 pub length-cleared : (k : ℕ) (area : List ℕ) → k ≤ length area → length (cleared k area) ≡ length area
 length-cleared k area h = length-front (replicate k 0) k area (length-replicate {A = ℕ} k 0) h
 
--- Clearing n words leaves those past n + m.
-pub cleared-past : (n m : ℕ) (area : List ℕ) → drop (n + m) (cleared n area) ≡ drop (n + m) area
-cleared-past n m area =
-    let e : length (replicate {A = ℕ} n 0) ≡ n = length-replicate {A = ℕ} n 0 in
-    ap (λ (k : ℕ). drop (k + m) (cleared n area)) (sym e)
-    ∙ drop-append-add (replicate n 0) (drop n area) m
-    ∙ drop-drop m n area
-
 pub overlay-past : (ws area : List ℕ) → drop (length ws) (overlay ws area) ≡ drop (length ws) area
 overlay-past ws area = drop-append-seam ws (drop (length ws) area)
 

@@ -3,10 +3,10 @@
 use mathlib.Core.Path.{_≡_, refl, sym, ap, _∙_}
 use mathlib.Core.Bool.{Bool, true, false, cond, _&&_, _||_}
 use mathlib.Core.List.{List, [], _∷_, _++_}
-use Prim.Native.Nat.{ℕ, zero, suc, _+_, _-_, _≤_, _<_}
+use Prim.Native.Nat.{ℕ, suc, _+_, _-_, _≤_, _<_}
 use native.Mathlib.Omega.{arith}
 use lib.Dec.{eqb, ltb, leb}
-use lib.ListN.{length, getD, set, take, drop}
+use lib.ListN.{length, getD, set, take, drop, drop-of-length-le}
 use lib.Seq.{drop-cons, take-suc, take-all}
 use borrow.Author.Tests.{eq-eqb, ne-eqb, lt-ltb, le-ltb, le-leb, lt-leb, leb-true, leb-false}
 use Rattle.lists.specs.Members.{memb}
@@ -17,12 +17,6 @@ use Rattle.lists.proofs.Words.{put-filled, filled-same}
 use Rattle.graphs.specs.Refusals.{rises}
 use Rattle.graphs.specs.Results.{blankMark, unlessBlank, marksFirst}
 use Rattle.walks.specs.Writing.{blankMarked}
-
-drop-past : (l : List ℕ) (i : ℕ) → length l ≤ i → drop i l ≡ []
-drop-past [] zero h = refl
-drop-past [] (suc i) h = refl
-drop-past (x ∷ l) zero h = absurd (omega arith)
-drop-past (x ∷ l) (suc i) h = drop-past l i (omega arith)
 
 drop-next : (l : List ℕ) (i : ℕ) → i < length l → drop i l ≡ getD l i 0 ∷ drop (i + 1) l
 drop-next l i h = let e : suc i ≡ i + 1 = omega arith in drop-cons l i 0 h ∙ ap (λ (j : ℕ). getD l i 0 ∷ drop j l) e
@@ -47,7 +41,7 @@ module _ (n last i : ℕ) (list : List ℕ) (I : rises n last (drop i list) ≡ 
       rising q = sym (next ∙ (λ j. (lt-ltb last word p j && le-leb word n q j) && rises n word (drop (i + 1) list)))
 
   pub risen : length list ≤ i → true ≡ rises n 0 list
-  risen h = sym (sym I ∙ ap (rises n last) (drop-past list i h))
+  risen h = sym (sym I ∙ ap (rises n last) (drop-of-length-le list h))
 
 -- ---- an element on the list
 module _ (x i : ℕ) (list : List ℕ) (I : memb x (drop i list) ≡ memb x list) where
@@ -62,7 +56,7 @@ module _ (x i : ℕ) (list : List ℕ) (I : memb x (drop i list) ≡ memb x list
     not-here ne = sym (found ∙ ap (λ (b : Bool). b || memb x (drop (i + 1) list)) (ne-eqb x (getD list i 0) (λ e. ne (sym e))))
 
   pub none-here : length list ≤ i → false ≡ memb x list
-  none-here h = sym (sym I ∙ ap (memb x) (drop-past list i h))
+  none-here h = sym (sym I ∙ ap (memb x) (drop-of-length-le list h))
 
 -- ---- marks
 -- One word of the list more: its mark is stored, and what is no node changes nothing.
