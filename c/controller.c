@@ -10,7 +10,7 @@
 
 #include "profile_walker.h"
 
-#if PROFILE_WALKER_VERSION != 2
+#if PROFILE_WALKER_VERSION != 3
 #error "these calls are those of version 2 of profile_walker.h"
 #endif
 

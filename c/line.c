@@ -10,6 +10,7 @@
  *   line images                  <refused/images.csv    the same images, with the numbers of this line
  *   line lists                   <refused/lists.csv     the same lists, with the numbers of this line
  *   line arrays                  <refused/arrays.csv    the same array forms, with the numbers of this line
+ *   line lines                   <refused/lines.csv     the same refusals, with what this line prints of them
  *
  * The second word names a file with the elements already on the blank; there are none without it. A text that is turned
  * back prints one line, as `refused,6`. Walks that must agree and do not end the program with 1, and so does a file that
@@ -75,6 +76,15 @@ static void read_list(const char *path)
     fclose(file);
 }
 
+static void write_refusal(uint16_t refusal)
+{
+    uint8_t line[PROFILE_WALKER_REFUSAL_BYTES];
+    size_t printed;
+
+    must(profile_walker_refusal_line(refusal, line, WORDS(line), &printed) == 0, "no room for the line of a refusal");
+    fwrite(line, 1, printed, stdout);
+}
+
 /* Reads a profile; where it is turned back, prints that and gives 0. */
 static int load(void)
 {
@@ -82,7 +92,7 @@ static int load(void)
         profile_walker_read_profile(text, text_bytes, after, WORDS(after), tail, WORDS(tail), &n, &m, &start);
 
     if (number != 0) {
-        printf("refused,%u\n", (unsigned)number);
+        write_refusal(number);
         return 0;
     }
     must(profile_walker_check_image(n, m, after, WORDS(after), tail, WORDS(tail)) == 0, "a loaded profile is no image");
@@ -240,6 +250,7 @@ static void write_folded(void)
 static void write_depth(void)
 {
     size_t printed;
+    uint16_t number;
 
     if (before_words > 0) {
         if (load()) {
@@ -247,8 +258,12 @@ static void write_depth(void)
         }
         return;
     }
-    profile_walker_walk_text(text, text_bytes, after, WORDS(after), tail, WORDS(tail), marks, WORDS(marks), events,
-                             WORDS(events), output, WORDS(output), &printed);
+    number = profile_walker_walk_text(text, text_bytes, after, WORDS(after), tail, WORDS(tail), marks, WORDS(marks),
+                                      events, WORDS(events), output, WORDS(output), &printed);
+    if (number != 0) {
+        write_refusal(number);
+        return;
+    }
     fwrite(output, 1, printed, stdout);
 }
 
@@ -628,6 +643,31 @@ static void write_arrays(void)
     }
 }
 
+/* A refusal, the bytes lent and the word for those printed: what the call returns, and both as it leaves them. */
+static void write_lines(void)
+{
+    must(next_row(), "no line of names");
+    printf("%s\n", row);
+    while (next_row()) {
+        const char *at = row;
+        uint16_t refusal = (uint16_t)number_at(&at);
+        size_t bytes = number_at(&at);
+        size_t printed = number_at(&at);
+        uint16_t number;
+        size_t i;
+
+        must(bytes <= WORDS(output), "more bytes than this program has");
+        memset(output, '.', bytes);
+        printf("%.*s", (int)(at - row), row);
+        number = profile_walker_refusal_line(refusal, output, bytes, &printed);
+        printf("%u,%lu,", (unsigned)number, (unsigned long)printed);
+        for (i = 0; i < bytes; i++) {
+            printf(i == 0 ? "%u" : " %u", (unsigned)output[i]);
+        }
+        printf("\n");
+    }
+}
+
 int main(int count, char **words)
 {
     static const struct {
@@ -638,7 +678,7 @@ int main(int count, char **words)
     } parts[] = {
         {"depth", 1, 0, write_depth},   {"breadth", 1, 1, write_breadth}, {"areas", 1, 1, write_areas},
         {"array", 1, 1, write_array},   {"script", 0, 0, write_script},   {"images", 0, 0, write_images},
-        {"lists", 0, 0, write_lists},   {"arrays", 0, 0, write_arrays},
+        {"lists", 0, 0, write_lists},   {"arrays", 0, 0, write_arrays},   {"lines", 0, 0, write_lines},
     };
     size_t i;
 
@@ -656,6 +696,6 @@ int main(int count, char **words)
             return 0;
         }
     }
-    fail("usage: line depth|breadth|areas [LIST], or line array|script|images|lists|arrays");
+    fail("usage: line depth|breadth|areas [LIST], or line array|script|images|lists|arrays|lines");
     return 1;
 }

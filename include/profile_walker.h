@@ -24,8 +24,7 @@
  * area they stand as the unreached do.
  *
  * Numbers. A call returns 0 where it is taken, else the number with which it is turned back. A call that is
- * turned back has changed nothing, except that profile_walker_walk_text prints its line. The conditions are
- * tried in the order given with each call:
+ * turned back has changed nothing, no area and no word. The conditions are tried in the order given with each call:
  *
  *    1  n is 0 or over 1,000
  *    2  m is over 4,000
@@ -54,10 +53,12 @@ extern "C" {
 #endif
 
 /*
- * Raised whenever the signature of a call changes; 1 was the header without this number, whose calls took no list of
- * elements already on the blank. C links by name alone: compile everything that calls the library with this header.
+ * Raised whenever a signature changes, or what a call does. 1 was the header without this number, whose calls took no
+ * list of elements already on the blank. 2 had no profile_walker_refusal_line: there profile_walker_walk_text printed
+ * the line of a refusal itself, and set *printed even then. C links by name alone: compile everything that calls the
+ * library with this header.
  */
-#define PROFILE_WALKER_VERSION 2
+#define PROFILE_WALKER_VERSION 3
 
 /* Limits and lengths. */
 enum {
@@ -69,6 +70,7 @@ enum {
     PROFILE_WALKER_TALLY_WORDS = 7,
     PROFILE_WALKER_OPEN_EVENTS = 3,   /* words for the event of an opening */
     PROFILE_WALKER_MOVE_EVENTS = 6,   /* words for the events of one move */
+    PROFILE_WALKER_REFUSAL_BYTES = 14, /* bytes for the line of any refusal */
     /* profile_walker_walk_text needs these, whatever the text: */
     PROFILE_WALKER_TEXT_AFTER = 5000,
     PROFILE_WALKER_TEXT_TAIL = 4000,
@@ -160,9 +162,8 @@ uint16_t profile_walker_to_array(uint16_t n, uint16_t m,
  * Prints the folded walk of the profile that a text says, as the program `walk` does: its events, then elements
  * reached, moves and circular. It needs areas of 5,000, 4,000, 5,000 and 54,003 words and 180,066 bytes,
  * whatever the text, and leaves what a walk leaves: the links as loaded, the marks, the events from the first
- * word on. *printed is always set: how many bytes of the output were printed. A text that is turned back prints
- * one line, as `refused,6`; where the output has no room for the whole line it prints nothing. Nothing else
- * changes then.
+ * word on. *printed is set where the text is taken: how many bytes of the output were printed. A text that is turned
+ * back prints nothing; profile_walker_refusal_line prints its line.
  * 13, 12, 1, 2, 3, 4, 6.
  */
 uint16_t profile_walker_walk_text(const uint8_t *text, size_t text_bytes,
@@ -172,6 +173,16 @@ uint16_t profile_walker_walk_text(const uint8_t *text, size_t text_bytes,
                                   uint16_t *events, size_t events_words,
                                   uint8_t *output, size_t output_bytes,
                                   size_t *printed);
+
+/*
+ * Prints the line that the program `walk` prints of a refusal, as `refused,6` and a line feed, at the front of the
+ * output, and sets *printed to its bytes; the bytes behind it stay. Any number has a line, 0 too. 14 bytes serve every
+ * number; 3 where the output is shorter than the line.
+ * 3.
+ */
+uint16_t profile_walker_refusal_line(uint16_t number,
+                                     uint8_t *output, size_t output_bytes,
+                                     size_t *printed);
 
 /* ---- Whole walks ----
  *

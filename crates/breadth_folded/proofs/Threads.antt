@@ -13,18 +13,16 @@ use Rattle.lists.proofs.Words.{length-put, put-put, put-at, put-comm, at-put, a
 use Rattle.graphs.specs.Nodes.{Vertex, Edge}
 use Rattle.graphs.specs.Events.{event, label, scan, traverse, History, _▸_}
 use Rattle.graphs.specs.Image.{Image, chain, edgesOf, graphOf}
-use Rattle.graphs.specs.Results.{marksLeft, eventsLeft}
-use Rattle.graphs.specs.Refusals.{unlessRefused}
 use Rattle.graphs.proofs.Labels.{Labels}
 use Rattle.graphs.proofs.Sound.{head0, Linked, Sound, chain-of, edgesLeft, left-falls, graph-closed}
 use Rattle.graphs.proofs.Queues.{Waiting, Scanning, queue-begin, queue-scan, queue-end}
-use Rattle.graphs.proofs.Refusals.{refused}
 use Rattle.images.specs.Checking.{image}
 use Rattle.breadth_folded.specs.declared.Scanned.{Scanned}
-use Rattle.walks.specs.Promises.{walkNumber, breadthWalk, tallied}
+use Rattle.walks.specs.declared.write.Walked.{Walked}
+use Rattle.walks.specs.Promises.{walkNumber, BreadthPromise}
 use Rattle.walks.specs.Writing.{noEvents, total, Held}
-use Rattle.breadth_folded.specs.Threads.{lastOf, lastNode, lastFrom, threaded, rear, Ends, FoldedAt, SomeFoldedAt, FoldedScanned, CanSearch, Ended}
-use Rattle.walks.proofs.Begins.{begins, zeros-tallied}
+use Rattle.breadth_folded.specs.Threads.{lastOf, lastNode, lastFrom, threaded, rear, Ends, FoldedAt, SomeFoldedAt, FoldedScanned, Scans, CanSearch, Ended}
+use Rattle.walks.proofs.Begins.{begins, refused-promised, taken-promised}
 use Rattle.walks.proofs.Writing.{Emits, Puts, Starts, held-total, held-lengths}
 use Rattle.walks.proofs.Reading.{target}
 use Rattle.walks.proofs.Scans.{first-waits, first-held, waiting-queued, scanning-queued, waiting-room, InScan, scan-few, scan-kept, scan-same, over-held, over-total, leads-vertex, crossed-total, edge-pass, edge-queue, edge-join, edge-total}
@@ -454,13 +452,16 @@ module _ {g : Image} {before : List ℕ} {start v f : ℕ} {marks₀ events₀ a
 
 -- ---- whatever the areas were as lent
 -- What the loop of a scan keeps: a is the word of e, and v is being scanned.
-abbrev pub ScanKept : (n m start v f : ℕ) (after₁ tail marks₁ events₁ t₁ after marks events t : List ℕ) (last e a : ℕ) → Type 0
-ScanKept n m start v f after₁ tail marks₁ events₁ t₁ after marks events t last e a =
-    (a ≡ getD after (e - 1) 0) × ((before after₀ marks₀ events₀ : List ℕ) → FoldedAt (image n m after₀ tail) before start v f marks₀ events₀ after₁ marks₁ events₁ t₁ → Passing (image n m after₀ tail) before start v marks₀ events₀ t₁ after marks events t last e)
+abbrev pub ScanKept : (n m v f : ℕ) (after₁ tail marks₁ events₁ t₁ after marks events t : List ℕ) (last e a : ℕ) → Type 0
+ScanKept n m v f after₁ tail marks₁ events₁ t₁ after marks events t last e a =
+    (a ≡ getD after (e - 1) 0)
+    × ((before : List ℕ) (start : ℕ) (after₀ marks₀ events₀ : List ℕ) → FoldedAt (image n m after₀ tail) before start v f marks₀ events₀ after₁ marks₁ events₁ t₁
+    → Passing (image n m after₀ tail) before start v marks₀ events₀ t₁ after marks events t last e)
 
-module _ {n m start v f : ℕ} {after₁ tail marks₁ events₁ t₁ after marks events t : List ℕ} {last e a : ℕ} (K : SomeFoldedAt n m start v f after₁ tail marks₁ events₁ t₁) (I : ScanKept n m start v f after₁ tail marks₁ events₁ t₁ after marks events t last e a) where
-  pub some-passing : Passing (image n m (K .after₀) tail) (K .before) start v (K .marks₀) (K .events₀) t₁ after marks events t last e
-  some-passing = I .1 (K .before) (K .after₀) (K .marks₀) (K .events₀) (K .is)
+module _ {n m v f : ℕ} {after₁ tail marks₁ events₁ t₁ after marks events t : List ℕ} {last e a : ℕ}
+    (K : SomeFoldedAt n m v f after₁ tail marks₁ events₁ t₁) (I : ScanKept n m v f after₁ tail marks₁ events₁ t₁ after marks events t last e a) where
+  pub some-passing : Passing (image n m (K .after₀) tail) (K .before) (K .start) v (K .marks₀) (K .events₀) t₁ after marks events t last e
+  some-passing = I .1 (K .before) (K .start) (K .after₀) (K .marks₀) (K .events₀) (K .is)
 
   pub some-ahead : n < a → Ahead (image n m (K .after₀) tail) after marks last a (getD tail (a - n - 1) 0)
   some-ahead h = scan-ahead (K .is) some-passing (I .0) h
@@ -587,26 +588,22 @@ module _ {g : Image} {before : List ℕ} {start v₁ f₁ : ℕ} {marks₀ event
 
 -- ---- whatever the areas were as lent, from scan to scan
 -- What the loop of the search keeps, once the start waits.
-abbrev pub SearchKept : (n m start : ℕ) (after₁ tail marks₁ events₁ t₁ : List ℕ) (f₁ v₁ : ℕ) (after marks events t : List ℕ) (f v : ℕ) → Type 0
-SearchKept n m start after₁ tail marks₁ events₁ t₁ f₁ v₁ after marks events t f v =
-    (before marks₀ events₀ : List ℕ) → FoldedAt (image n m after₁ tail) before start v₁ f₁ marks₀ events₀ after₁ marks₁ events₁ t₁ → Searching (image n m after₁ tail) before start marks₀ events₀ after marks events t f v
-
--- What a scan promises.
-abbrev pub ScanPromise : (n m start v f : ℕ) (after tail marks events t after′ marks′ events′ : List ℕ) (s : Scanned) → Type 0
-ScanPromise n m start v f after tail marks events t after′ marks′ events′ s =
-    (before after₀ marks₀ events₀ : List ℕ) → FoldedAt (image n m after₀ tail) before start v f marks₀ events₀ after marks events t → FoldedScanned (image n m after₀ tail) before start v marks₀ events₀ after′ marks′ events′ t s
+abbrev pub SearchKept : (n m : ℕ) (after₁ tail marks₁ events₁ t₁ : List ℕ) (f₁ v₁ : ℕ) (after marks events t : List ℕ) (f v : ℕ) → Type 0
+SearchKept n m after₁ tail marks₁ events₁ t₁ f₁ v₁ after marks events t f v =
+    (before : List ℕ) (start : ℕ) (marks₀ events₀ : List ℕ) → FoldedAt (image n m after₁ tail) before start v₁ f₁ marks₀ events₀ after₁ marks₁ events₁ t₁
+    → Searching (image n m after₁ tail) before start marks₀ events₀ after marks events t f v
 
 module _ {n m : ℕ} {before : List ℕ} {start : ℕ} {after₁ tail marks₀ events₀ marks₁ events₁ t₁ : List ℕ} {f₁ : ℕ} (C : CanSearch (image n m after₁ tail) before start marks₀ events₀)
     (starts : Starts (n + m) before start marks₀ events₀ marks₁ events₁ t₁) (l : f₁ ≡ lastFrom m after₁ start)
-    {after marks events t : List ℕ} {f v : ℕ} (I : SearchKept n m start after₁ tail marks₁ events₁ t₁ f₁ start after marks events t f v) where
+    {after marks events t : List ℕ} {f v : ℕ} (I : SearchKept n m after₁ tail marks₁ events₁ t₁ f₁ start after marks events t f v) where
   begun : FoldedAt (image n m after₁ tail) before start start f₁ marks₀ events₀ after₁ marks₁ events₁ t₁
   begun = search-first C starts l
 
   searching : Searching (image n m after₁ tail) before start marks₀ events₀ after marks events t f v
-  searching = I before marks₀ events₀ begun
+  searching = I before start marks₀ events₀ begun
 
-  pub some-next : (v ≡ 0 → ⊥) → SomeFoldedAt n m start v f after tail marks events t
-  some-next ne = record { before = before; after₀ = after₁; marks₀ = marks₀; events₀ = events₀; is = search-next begun searching ne }
+  pub some-next : (v ≡ 0 → ⊥) → SomeFoldedAt n m v f after tail marks events t
+  some-next ne = record { before = before; start = start; after₀ = after₁; marks₀ = marks₀; events₀ = events₀; is = search-next begun searching ne }
 
   -- The areas are as long as they were.
   pub same-lengths : (length after ≡ length after₁) × ((length marks ≡ length marks₀) × (length events ≡ length events₀))
@@ -615,9 +612,9 @@ module _ {n m : ℕ} {before : List ℕ} {start : ℕ} {after₁ tail marks₀ e
   pub ended : v ≡ 0 → Ended (image n m after₁ tail) before start marks₀ events₀ after marks events t
   ended = search-end begun searching
 
-  module _ (ne : v ≡ 0 → ⊥) {after′ marks′ events′ : List ℕ} {s : Scanned} (P : ScanPromise n m start v f after tail marks events t after′ marks′ events′ s) where
+  module _ (ne : v ≡ 0 → ⊥) {after′ marks′ events′ : List ℕ} {s : Scanned} (P : Scans n m v f tail after marks events t after′ marks′ events′ s) where
     over : FoldedScanned (image n m after₁ tail) before start v marks₀ events₀ after′ marks′ events′ t s
-    over = P before after₁ marks₀ events₀ (search-next begun searching ne)
+    over = P before start after₁ marks₀ events₀ (search-next begun searching ne)
 
     pub some-leading : Leading (image n m after₁ tail) after′ (s .e)
     some-leading = search-leading begun searching over
@@ -626,31 +623,23 @@ module _ {n m : ℕ} {before : List ℕ} {start : ℕ} {after₁ tail marks₀ e
     some-less = search-less begun searching over
 
 -- One scan more.
-pub search-again : {n m start : ℕ} {after₁ tail marks₁ events₁ t₁ : List ℕ} {f₁ v₁ : ℕ} {after marks events t : List ℕ} {f v : ℕ} → SearchKept n m start after₁ tail marks₁ events₁ t₁ f₁ v₁ after marks events t f v
+pub search-again : {n m : ℕ} {after₁ tail marks₁ events₁ t₁ : List ℕ} {f₁ v₁ : ℕ} {after marks events t : List ℕ} {f v : ℕ}
+    → SearchKept n m after₁ tail marks₁ events₁ t₁ f₁ v₁ after marks events t f v
     → (v ≡ 0 → ⊥)
-    → {after′ marks′ events′ : List ℕ} {s : Scanned} → ScanPromise n m start v f after tail marks events t after′ marks′ events′ s
-    → SearchKept n m start after₁ tail marks₁ events₁ t₁ f₁ v₁ (set after′ (s .e - 1) 0) marks′ events′ (s .tally) (s .f) (s .next)
-search-again {after₁ = after₁} I ne P before marks₀ events₀ F = let Z = I before marks₀ events₀ F in search-more F Z (P before after₁ marks₀ events₀ (search-next F Z ne))
+    → {after′ marks′ events′ : List ℕ} {s : Scanned} → Scans n m v f tail after marks events t after′ marks′ events′ s
+    → SearchKept n m after₁ tail marks₁ events₁ t₁ f₁ v₁ (set after′ (s .e - 1) 0) marks′ events′ (s .tally) (s .f) (s .next)
+search-again {after₁ = after₁} I ne P before start marks₀ events₀ F = let Z = I before start marks₀ events₀ F in search-more F Z (P before start after₁ marks₀ events₀ (search-next F Z ne))
 
 -- ---- the whole walk
--- What a walk of g from start is to leave, given its number and its tally.
-abbrev pub Walk : (g : Image) (before : List ℕ) (start : ℕ) (marks events : List ℕ) (number : ℕ) (t after′ marks′ events′ : List ℕ) → Type 0
-Walk g before start marks events number t after′ marks′ events′ =
-    (number ≡ walkNumber g before start marks events [])
-    × ((t ≡ tallied number (breadthWalk g before start))
-    × ((after′ ≡ g .after)
-    × ((marks′ ≡ unlessRefused number (marksLeft (g .n + g .m) before (breadthWalk g before start) marks) marks) × (events′ ≡ unlessRefused number (eventsLeft (breadthWalk g before start) events) events))))
-
 module _ (g : Image) (before : List ℕ) (start : ℕ) (marks events : List ℕ) {k : ℕ} (is : k ≡ walkNumber g before start marks events []) where
   -- It is refused.
-  pub walk-refused : {number : ℕ} {t : List ℕ} → (number ≡ k) × (t ≡ noEvents) → (k ≡ 0 → ⊥) → Walk g before start marks events number t (g .after) marks events
-  walk-refused {number} {t} r ne =
-      let no : number ≢ 0 = λ e. ne (sym (r .0) ∙ e) in
-      (r .0 ∙ is, (r .1 ∙ zeros-tallied number (breadthWalk g before start) no, (refl, (refused number _ marks no, refused number _ events no))))
+  pub walk-refused : {r : Walked} → (r .number ≡ k) × (r .tally ≡ noEvents) → k ≢ 0 → BreadthPromise g before start [] marks events r marks events × (g .after ≡ g .after)
+  walk-refused f ne = (refused-promised is ne f, refl)
 
   -- It is taken.
   pub walk-can : k ≡ 0 → CanSearch g before start marks events
   walk-can e = let B = begins g before start marks events [] (sym is ∙ e) in record { sound = B .sound; start-vertex = B .start-vertex; listed = B .listed; roomy = B .breadth-room }
 
-  pub walk-taken : {t after′ marks′ events′ : List ℕ} → k ≡ 0 → Ended g before start marks events after′ marks′ events′ t → Walk g before start marks events 0 t after′ marks′ events′
-  walk-taken e E = (sym e ∙ is, (E .held .counts, (E .links, (E .held .marked, E .held .written))))
+  pub walk-taken : {t after′ marks′ events′ : List ℕ} → k ≡ 0 → Ended g before start marks events after′ marks′ events′ t
+      → BreadthPromise g before start [] marks events (record { number = 0; tally = t }) marks′ events′ × (after′ ≡ g .after)
+  walk-taken e E = (taken-promised (sym is ∙ e) refl (E .held), E .links)

@@ -64,8 +64,9 @@ pub record FoldedAt (g : Image) (before : List ℕ) (start v f : ℕ) (marks₀ 
   pub links : after ≡ threaded g (v ∷ q)
   pub last : f ≡ lastNode g (rear v q)
 
-pub record SomeFoldedAt (n m start v f : ℕ) (after tail marks events t : List ℕ) : Type 0 where
+pub record SomeFoldedAt (n m v f : ℕ) (after tail marks events t : List ℕ) : Type 0 where
   pub before : List ℕ
+  pub start : ℕ
   pub after₀ : List ℕ
   pub marks₀ : List ℕ
   pub events₀ : List ℕ
@@ -83,6 +84,12 @@ pub record FoldedScanned (g : Image) (before : List ℕ) (start v : ℕ) (marks�
   pub next : s .next ≡ head0 q
   pub last : s .f ≡ lastNode g (rear v q)
   pub more : total t < total (s .tally)
+
+-- What the scan of v promises, whatever the search and the areas as lent.
+abbrev pub Scans : (n m v f : ℕ) (tail after marks events t after′ marks′ events′ : List ℕ) → Scanned → Type 0
+Scans n m v f tail after marks events t after′ marks′ events′ s =
+    (before : List ℕ) (start : ℕ) (after₀ marks₀ events₀ : List ℕ) → FoldedAt (image n m after₀ tail) before start v f marks₀ events₀ after marks events t
+    → FoldedScanned (image n m after₀ tail) before start v marks₀ events₀ after′ marks′ events′ t s
 
 -- The search can begin.
 pub record CanSearch (g : Image) (before : List ℕ) (start : ℕ) (marks events : List ℕ) : Type 0 where

@@ -3,6 +3,7 @@
 //
 // The public function takes any input at all: it is refused with its number of document 01 and
 // changes nothing, or it does its work. Document 01's element is a vertex here, its reference an edge.
+use images::Edge;
 use images::Vertex;
 use walks::Walked;
 use walks::begin;
@@ -11,13 +12,10 @@ use walks::label;
 use walks::refused;
 use walks::walk_number;
 ghost use mathlib.Core.Path.{_≡_};
-ghost use mathlib.Core.List.{List, []};
-ghost use Prim.Native.Nat.{ℕ, _+_};
-ghost use Rattle.graphs.specs.Results.{marksLeft, eventsLeft};
-ghost use Rattle.graphs.specs.Refusals.{unlessRefused};
+ghost use mathlib.Core.List.{[]};
 ghost use Rattle.images.specs.Checking.{image};
-ghost use Rattle.walks.specs.Promises.{walkNumber, breadthWalk, tallied};
-ghost use Rattle.breadth_folded.specs.Threads.{Ends, lastFrom, FoldedAt, SomeFoldedAt, FoldedScanned, CanSearch, Ended};
+ghost use Rattle.walks.specs.Promises.{BreadthPromise};
+ghost use Rattle.breadth_folded.specs.Threads.{Ends, lastFrom, SomeFoldedAt, Scans, CanSearch, Ended};
 
 // The last node of the list of x: its last edge, or x itself.
 fn last_node(n: u16, m: u16, x: u16, after: &[u16]) -> u16
@@ -48,8 +46,7 @@ pub(crate) struct Scanned {
 fn scan_vertex(
     n: u16,
     m: u16,
-    start: u16,
-    v: u16,
+    v: Vertex,
     f: u16,
     after: &mut [u16],
     tail: &[u16],
@@ -57,23 +54,24 @@ fn scan_vertex(
     events: &mut [u16],
     tally: [u32; 7],
 ) -> Scanned
-    requires { ⌜ SomeFoldedAt n m start v f (now after) (now tail) (now marks) (now events) tally ⌝ }
-    ensures { λ q. ⌜ ((before after₀ marks₀ events₀ : List ℕ) → FoldedAt (image n m after₀ (now (tail .entry))) before start v f marks₀ events₀ (now (after .entry)) (now (marks .entry)) (now (events .entry)) tally → FoldedScanned (image n m after₀ (now (tail .entry))) before start v marks₀ events₀ (now (after .exit)) (now (marks .exit)) (now (events .exit)) tally q) ⌝ }
+    requires { ⌜ SomeFoldedAt n m (v .0) f (now after) (now tail) (now marks) (now events) tally ⌝ }
+    ensures { λ s. ⌜ Scans n m (v .0) f (now (tail .entry)) (now (after .entry)) (now (marks .entry)) (now (events .entry)) tally
+        (now (after .exit)) (now (marks .exit)) (now (events .exit)) s ⌝ }
 {
     let mut t = tally;
     let mut last = f;
-    let mut e = v;
-    let i = v as usize - 1;
+    let mut e = v.0;
+    let i = e as usize - 1;
     let mut a = after[i];
     while n < a {
         e = a;
-        let b = emit(events, 7, e, v, t);
+        let b = emit(events, 7, Edge(e), v, t);
         t = b;
         let j = e as usize - n as usize - 1;
         let x = tail[j];
         let l = x as usize - 1;
         if marks[l] == 0 {
-            let c = label(marks, events, x, t);
+            let c = label(marks, events, Vertex(x), t);
             t = c;
             let k = last as usize - 1;
             after[k] = x;
@@ -82,7 +80,7 @@ fn scan_vertex(
         let k = e as usize - 1;
         a = after[k];
     }
-    let s = emit(events, 6, 0, v, t);
+    let s = emit(events, 6, Edge(0), v, t);
     Scanned {
         e: e,
         f: last,
@@ -95,21 +93,22 @@ fn scan_vertex(
 fn search(
     n: u16,
     m: u16,
-    start: u16,
+    start: Vertex,
     after: &mut [u16],
     tail: &[u16],
     before: &[u16],
     marks: &mut [u16],
     events: &mut [u16],
 ) -> [u32; 7]
-    requires { ⌜ CanSearch (image n m (now after) (now tail)) (now before) start (now marks) (now events) ⌝ }
-    ensures { λ q. ⌜ Ended (image n m (now (after .entry)) (now (tail .entry))) (now (before .entry)) start (now (marks .entry)) (now (events .entry)) (now (after .exit)) (now (marks .exit)) (now (events .exit)) q ⌝ }
+    requires { ⌜ CanSearch (image n m (now after) (now tail)) (now before) (start .0) (now marks) (now events) ⌝ }
+    ensures { λ t. ⌜ Ended (image n m (now (after .entry)) (now (tail .entry))) (now (before .entry)) (start .0)
+        (now (marks .entry)) (now (events .entry)) (now (after .exit)) (now (marks .exit)) (now (events .exit)) t ⌝ }
 {
     let mut tally = begin(marks, events, n as usize + m as usize, before, start);
-    let mut f = last_node(n, m, start, after);
-    let mut v = start;
+    let mut v = start.0;
+    let mut f = last_node(n, m, v, after);
     while v != 0 {
-        let s = scan_vertex(n, m, start, v, f, after, tail, marks, events, tally);
+        let s = scan_vertex(n, m, Vertex(v), f, after, tail, marks, events, tally);
         let t = s.tally;
         tally = t;
         f = s.f;
@@ -132,17 +131,15 @@ pub fn bfs_folded(
     marks: &mut [u16],
     events: &mut [u16],
 ) -> Walked
-    ensures number { λ r. ⌜ r .number ≡ walkNumber (image n m (now (after .entry)) (now (tail .entry))) (now (before .entry)) (start .0) (now (marks .entry)) (now (events .entry)) [] ⌝ }
-    ensures tally { λ r. ⌜ r .tally ≡ tallied (r .number) (breadthWalk (image n m (now (after .entry)) (now (tail .entry))) (now (before .entry)) (start .0)) ⌝ }
+    ensures walk { λ r. ⌜ BreadthPromise (image n m (now (after .entry)) (now (tail .entry))) (now (before .entry)) (start .0) []
+        (now (marks .entry)) (now (events .entry)) r (now (marks .exit)) (now (events .exit)) ⌝ }
     ensures after { λ r. ⌜ now (after .exit) ≡ now (after .entry) ⌝ }
-    ensures marks { λ r. ⌜ now (marks .exit) ≡ unlessRefused (r .number) (marksLeft (n + m) (now (before .entry)) (breadthWalk (image n m (now (after .entry)) (now (tail .entry))) (now (before .entry)) (start .0)) (now (marks .entry))) (now (marks .entry)) ⌝ }
-    ensures events { λ r. ⌜ now (events .exit) ≡ unlessRefused (r .number) (eventsLeft (breadthWalk (image n m (now (after .entry)) (now (tail .entry))) (now (before .entry)) (start .0)) (now (events .entry))) (now (events .entry)) ⌝ }
 {
     let k = walk_number(n, m, start, after, tail, before, marks, events, true);
     if k != 0 {
         return refused(k);
     }
-    let tally = search(n, m, start.0, after, tail, before, marks, events);
+    let tally = search(n, m, start, after, tail, before, marks, events);
     Walked {
         number: 0,
         tally: tally,

@@ -19,17 +19,18 @@ use Rattle.graphs.specs.Nodes.{Vertex, Edge}
 use Rattle.graphs.specs.Graph.{Graph, Closed}
 use Rattle.graphs.specs.Events.{event, label, scan, traverse, History, _▸_, labelled, scanned}
 use Rattle.graphs.specs.Image.{Image, graphOf}
-use Rattle.graphs.specs.Results.{marksLeft, eventsLeft, queueLeft}
+use Rattle.graphs.specs.Results.{queueLeft}
 use Rattle.graphs.specs.Refusals.{lent, unlessRefused}
 use Rattle.graphs.proofs.Labels.{labels-few}
 use Rattle.graphs.proofs.Refusals.{long, refused}
 use Rattle.graphs.proofs.Results.{named-length}
 use Rattle.graphs.proofs.Sound.{graph-closed}
 use Rattle.graphs.proofs.Queues.{Waiting, Scanning, queue-begin, queue-scan, queue-end}
-use Rattle.walks.specs.Promises.{walkNumber, breadthWalk, tallied}
+use Rattle.walks.specs.declared.write.Walked.{Walked}
+use Rattle.walks.specs.Promises.{walkNumber, breadthWalk, BreadthPromise}
 use Rattle.walks.specs.Writing.{noEvents, total, Held}
 use Rattle.breadth_queue.specs.Queues.{QueueAt, SomeQueueAt, QueueScanned, CanSearch, Ended}
-use Rattle.walks.proofs.Begins.{begins, zeros-tallied}
+use Rattle.walks.proofs.Begins.{begins, refused-promised, taken-promised}
 use Rattle.walks.proofs.Storing.{all-cleared}
 use Rattle.walks.proofs.Writing.{Emits, Puts, Starts, held-total, held-labels, held-lengths}
 use Rattle.walks.proofs.Reading.{target}
@@ -189,8 +190,8 @@ scan-as B a b c d = record {
   since = omega (arith, B .since, ap total d);
 }
 
-module _ {g : Image} {start v : ℕ} {marks queue events t : List ℕ} (P : SomeQueueAt g start v marks queue events t) where
-  module _ {before : List ℕ} {i : ℕ} {marks₀ queue₀ events₀ : List ℕ} (A : QueueAt g before start i marks₀ queue₀ events₀ marks queue events t) where
+module _ {g : Image} {v : ℕ} {marks queue events t : List ℕ} (P : SomeQueueAt g v marks queue events t) where
+  module _ {before : List ℕ} {start i : ℕ} {marks₀ queue₀ events₀ : List ℕ} (A : QueueAt g before start i marks₀ queue₀ events₀ marks queue events t) where
     -- The place in the queue does not depend on the areas as lent.
     same-place : i ≡ P .i
     same-place = sym (at-scans A) ∙ at-scans (P .is)
@@ -307,24 +308,20 @@ module _ {g : Image} {start v : ℕ} {marks queue events t : List ℕ} (P : Some
               since = omega (arith, B .since, edge-total I one k two);
             }
 
--- What the loop of a scan keeps, whatever the areas as lent.
-abbrev pub ScanKept : Image → ℕ → ℕ → (marks queue events t marks′ queue′ events′ t′ : List ℕ) → ℕ → Type 0
-ScanKept g start v marks queue events t marks′ queue′ events′ t′ e = (before : List ℕ) (i : ℕ) (marks₀ queue₀ events₀ : List ℕ) → QueueAt g before start i marks₀ queue₀ events₀ marks queue events t → ScanAt g before start v i marks₀ queue₀ events₀ marks′ queue′ events′ t t′ e
+-- What the loop of a scan keeps, whatever the search and the areas as lent.
+abbrev pub ScanKept : Image → ℕ → (marks queue events t marks′ queue′ events′ t′ : List ℕ) → ℕ → Type 0
+ScanKept g v marks queue events t marks′ queue′ events′ t′ e =
+    (before : List ℕ) (start i : ℕ) (marks₀ queue₀ events₀ : List ℕ) → QueueAt g before start i marks₀ queue₀ events₀ marks queue events t
+    → ScanAt g before start v i marks₀ queue₀ events₀ marks′ queue′ events′ t t′ e
 
--- A turn of that loop keeps it, and adds events.
-pub record Turned (g : Image) (start v : ℕ) (marks queue events t marks′ queue′ events′ t₁ t₂ : List ℕ) (e : ℕ) : Type 0 where
-  pub is : ScanKept g start v marks queue events t marks′ queue′ events′ t₂ e
-  pub more : total t₁ < total t₂
-  pub few : total t₁ < 10000
-
-module _ {g : Image} {start v : ℕ} {marks queue events t : List ℕ} (P : SomeQueueAt g start v marks queue events t) where
+module _ {g : Image} {v : ℕ} {marks queue events t : List ℕ} (P : SomeQueueAt g v marks queue events t) where
   -- v is a vertex.
   pub kept-first : Vertex (g .n) v × ((g .n ≤ 1000) × (g .n + g .m ≤ length (g .after)))
   kept-first = (vertex P (P .is), (P .is .sound .few-vertices, P .is .sound .long-after))
 
-  module _ {marks′ queue′ events′ t′ : List ℕ} {e : ℕ} (K : ScanKept g start v marks queue events t marks′ queue′ events′ t′ e) where
-    now : ScanAt g (P .before) start v (P .i) (P .marks₀) (P .queue₀) (P .events₀) marks′ queue′ events′ t t′ e
-    now = K (P .before) (P .i) (P .marks₀) (P .queue₀) (P .events₀) (P .is)
+  module _ {marks′ queue′ events′ t′ : List ℕ} {e : ℕ} (K : ScanKept g v marks queue events t marks′ queue′ events′ t′ e) where
+    now : ScanAt g (P .before) (P .start) v (P .i) (P .marks₀) (P .queue₀) (P .events₀) marks′ queue′ events′ t t′ e
+    now = K (P .before) (P .start) (P .i) (P .marks₀) (P .queue₀) (P .events₀) (P .is)
 
     pub kept-turn : e ≢ 0 → Turn g marks′ queue′ t′ e (target g e)
     kept-turn = scan-turn P (P .is) now
@@ -340,28 +337,26 @@ module _ {g : Image} {start v : ℕ} {marks queue events t : List ℕ} (P : Some
 
       -- That vertex is labelled already.
       pub kept-pass : {marks₂ queue₂ events₂ t₂ : List ℕ} → getD marks′ (target g e - 1) 0 ≢ 0 → marks₂ ≡ marks′ → queue₂ ≡ queue′ → events₂ ≡ events₁ → t₂ ≡ t₁
-          → Turned g start v marks queue events t marks₂ queue₂ events₂ t′ t₂ (getD (g .after) (e - 1) 0)
-      kept-pass k a b c d = record {
-        is = λ before i marks₀ queue₀ events₀ A. scan-as (scan-pass P A (K before i marks₀ queue₀ events₀ A) ne one k) a b c d;
-        more = omega (arith, crossed-total (I P (P .is) now ne) one, ap total d);
-        few = kept-turn ne .few;
-      }
+          → ScanKept g v marks queue events t marks₂ queue₂ events₂ t₂ (getD (g .after) (e - 1) 0)
+      kept-pass k a b c d before start i marks₀ queue₀ events₀ A = scan-as (scan-pass P A (K before start i marks₀ queue₀ events₀ A) ne one k) a b c d
+
+      pub pass-falls : {t₂ : List ℕ} → t₂ ≡ t₁ → 10000 - total t₂ < 10000 - total t′
+      pass-falls d = omega (arith, crossed-total (I P (P .is) now ne) one, ap total d, kept-turn ne .few)
 
       -- It is not: it is labelled and queued.
-      pub kept-join : {marks₁ events₃ t₃ marks₂ queue₂ events₂ t₂ : List ℕ} → getD marks′ (target g e - 1) 0 ≡ 0
-          → Puts (target g e) marks′ events₁ t₁ marks₁ events₃ t₃
-          → marks₂ ≡ marks₁ → queue₂ ≡ set queue′ (getD t₁ 0 0) (target g e) → events₂ ≡ events₃ → t₂ ≡ t₃
-          → Turned g start v marks queue events t marks₂ queue₂ events₂ t′ t₂ (getD (g .after) (e - 1) 0)
-      kept-join k two a b c d = record {
-        is = λ before i marks₀ queue₀ events₀ A. scan-as (scan-join P A (K before i marks₀ queue₀ events₀ A) ne one k two) a b c d;
-        more = omega (arith, edge-total (I P (P .is) now ne) one k two, ap total d);
-        few = kept-turn ne .few;
-      }
+      module _ {marks₁ events₃ t₃ : List ℕ} (k : getD marks′ (target g e - 1) 0 ≡ 0) (two : Puts (target g e) marks′ events₁ t₁ marks₁ events₃ t₃) where
+        pub kept-join : {marks₂ queue₂ events₂ t₂ : List ℕ} → marks₂ ≡ marks₁ → queue₂ ≡ set queue′ (getD t₁ 0 0) (target g e) → events₂ ≡ events₃ → t₂ ≡ t₃
+            → ScanKept g v marks queue events t marks₂ queue₂ events₂ t₂ (getD (g .after) (e - 1) 0)
+        kept-join a b c d before start i marks₀ queue₀ events₀ A = scan-as (scan-join P A (K before start i marks₀ queue₀ events₀ A) ne one k two) a b c d
+
+        pub join-falls : {t₂ : List ℕ} → t₂ ≡ t₃ → 10000 - total t₂ < 10000 - total t′
+        join-falls d = omega (arith, edge-total (I P (P .is) now ne) one k two, ap total d, kept-turn ne .few)
 
 -- ---- the whole search
--- What the loop of the search keeps, whatever the areas as lent.
-abbrev pub SearchKept : Image → List ℕ → ℕ → (i₀ : ℕ) (marks queue events t : List ℕ) (i : ℕ) (marks′ queue′ events′ t′ : List ℕ) → Type 0
-SearchKept g before start i₀ marks queue events t i marks′ queue′ events′ t′ = (marks₀ queue₀ events₀ : List ℕ) → QueueAt g before start i₀ marks₀ queue₀ events₀ marks queue events t → QueueAt g before start i marks₀ queue₀ events₀ marks′ queue′ events′ t′
+-- What the loop of the search keeps, whatever the start and the areas as lent.
+abbrev pub SearchKept : Image → List ℕ → (i₀ : ℕ) (marks queue events t : List ℕ) (i : ℕ) (marks′ queue′ events′ t′ : List ℕ) → Type 0
+SearchKept g before i₀ marks queue events t i marks′ queue′ events′ t′ =
+    (start : ℕ) (marks₀ queue₀ events₀ : List ℕ) → QueueAt g before start i₀ marks₀ queue₀ events₀ marks queue events t → QueueAt g before start i marks₀ queue₀ events₀ marks′ queue′ events′ t′
 
 module _ {g : Image} {before : List ℕ} {start : ℕ} {marks queue events : List ℕ} (C : CanSearch g before start marks queue events) where
   -- The start is labelled, and is the first of the queue.
@@ -380,12 +375,25 @@ module _ {g : Image} {before : List ℕ} {start : ℕ} {marks queue events : Lis
       place = refl;
     }
 
-    pub search-at : {i : ℕ} {marks″ queue″ events″ t″ : List ℕ} → SearchKept g before start 0 marks′ (set queue′ 0 start) events′ t i marks″ queue″ events″ t″ → QueueAt g before start i marks queue events marks″ queue″ events″ t″
-    search-at K = K marks queue events search-start
+    pub search-at : {i : ℕ} {marks″ queue″ events″ t″ : List ℕ} → SearchKept g before 0 marks′ (set queue′ 0 start) events′ t i marks″ queue″ events″ t″
+        → QueueAt g before start i marks queue events marks″ queue″ events″ t″
+    search-at K = K start marks queue events search-start
 
 -- The next that waits can be scanned.
-pub search-scan : {g : Image} {before : List ℕ} {start i : ℕ} {marks₀ queue₀ events₀ marks queue events t : List ℕ} → QueueAt g before start i marks₀ queue₀ events₀ marks queue events t → i < getD t 0 0 → SomeQueueAt g start (getD queue i 0) marks queue events t
-search-scan {before = before} {i = i} {marks₀} {queue₀} {events₀} A some = record { before = before; i = i; marks₀ = marks₀; queue₀ = queue₀; events₀ = events₀; is = A; some = some; first = refl }
+pub search-scan : {g : Image} {before : List ℕ} {start i : ℕ} {marks₀ queue₀ events₀ marks queue events t : List ℕ} → QueueAt g before start i marks₀ queue₀ events₀ marks queue events t
+    → i < getD t 0 0
+    → SomeQueueAt g (getD queue i 0) marks queue events t
+search-scan {before = before} {start} {i} {marks₀} {queue₀} {events₀} A some = record {
+  before = before;
+  start = start;
+  i = i;
+  marks₀ = marks₀;
+  queue₀ = queue₀;
+  events₀ = events₀;
+  is = A;
+  some = some;
+  first = refl;
+}
 
 -- It was: one more is scanned.
 pub search-more : {g : Image} {before : List ℕ} {start i : ℕ} {marks₀ queue₀ events₀ marks queue events t t′ : List ℕ} → QueueScanned g before start i marks₀ queue₀ events₀ marks queue events t t′ → QueueAt g before start (i + 1) marks₀ queue₀ events₀ marks queue events t′
@@ -396,21 +404,14 @@ pub search-less : {g : Image} {before : List ℕ} {start i : ℕ} {marks₀ queu
 search-less Q = (Q .more, at-few (Q .is) .few)
 
 -- ---- the walk
--- What the walk leaves: its number, the tally and the three areas.
-abbrev pub Leaves : Image → List ℕ → ℕ → (marks queue events : List ℕ) (k : ℕ) (t marks′ queue′ events′ : List ℕ) → Type 0
-Leaves g before start marks queue events k t marks′ queue′ events′ =
-    (k ≡ walkNumber g before start marks events (lent (g .n) queue ∷ []))
-    × ((t ≡ tallied k (breadthWalk g before start))
-    × ((marks′ ≡ unlessRefused k (marksLeft (g .n + g .m) before (breadthWalk g before start) marks) marks)
-    × ((queue′ ≡ unlessRefused k (queueLeft (g .n) (breadthWalk g before start) queue) queue)
-    × (events′ ≡ unlessRefused k (eventsLeft (breadthWalk g before start) events) events))))
-
 module _ (g : Image) (before : List ℕ) (start : ℕ) (marks queue events : List ℕ) {j : ℕ} (is : j ≡ walkNumber g before start marks events (lent (g .n) queue ∷ [])) where
+  -- What the walk leaves in the queue area.
+  abbrev Queued : Walked → List ℕ → Type 0
+  Queued r queue′ = queue′ ≡ unlessRefused (r .number) (queueLeft (g .n) (breadthWalk g before start) queue) queue
+
   -- A walk refused leaves all as it was.
-  pub walk-refused : {k : ℕ} {t : List ℕ} → (k ≡ j) × (t ≡ noEvents) → j ≢ 0 → Leaves g before start marks queue events k t marks queue events
-  walk-refused {k} r ne =
-      let no : k ≢ 0 = λ e. ne (sym (r .0) ∙ e) in
-      (r .0 ∙ is, (r .1 ∙ zeros-tallied k (breadthWalk g before start) no, (refused k _ marks no, (refused k _ queue no, refused k _ events no))))
+  pub walk-refused : {r : Walked} → (r .number ≡ j) × (r .tally ≡ noEvents) → j ≢ 0 → BreadthPromise g before start (lent (g .n) queue ∷ []) marks events r marks events × Queued r queue
+  walk-refused {r} f ne = (refused-promised is ne f, refused (r .number) (queueLeft (g .n) (breadthWalk g before start) queue) queue (λ e. ne (sym (f .0) ∙ e)))
 
   -- A walk taken can begin.
   pub walk-begins : j ≡ 0 → CanSearch g before start marks queue events
@@ -419,5 +420,6 @@ module _ (g : Image) (before : List ℕ) (start : ℕ) (marks queue events : Lis
       record { sound = B .sound; start-vertex = B .start-vertex; listed = B .listed; roomy = B .breadth-room; long = long (g .n) queue [] (B .own-long) .0 }
 
   -- And leaves what the search leaves.
-  pub walk-ends : {marks′ queue′ events′ t : List ℕ} → j ≡ 0 → Ended g before start marks queue events marks′ queue′ events′ t → Leaves g before start marks queue events 0 t marks′ queue′ events′
-  walk-ends z E = (sym z ∙ is, (E .held .counts, (E .held .marked, (E .queue-left, E .held .written))))
+  pub walk-ends : {marks′ queue′ events′ t : List ℕ} → j ≡ 0 → Ended g before start marks queue events marks′ queue′ events′ t
+      → (let r : Walked = record { number = 0; tally = t } in BreadthPromise g before start (lent (g .n) queue ∷ []) marks events r marks′ events′ × Queued r queue′)
+  walk-ends z E = (taken-promised (sym is ∙ z) refl (E .held), E .queue-left)

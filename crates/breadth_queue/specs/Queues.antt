@@ -28,8 +28,9 @@ pub record QueueAt (g : Image) (before : List ℕ) (start i : ℕ) (marks₀ que
   pub place : i ≡ length (scanned h)
 
 -- v is the next to be scanned.
-pub record SomeQueueAt (g : Image) (start v : ℕ) (marks queue events t : List ℕ) : Type 0 where
+pub record SomeQueueAt (g : Image) (v : ℕ) (marks queue events t : List ℕ) : Type 0 where
   pub before : List ℕ
+  pub start : ℕ
   pub i : ℕ
   pub marks₀ : List ℕ
   pub queue₀ : List ℕ
@@ -42,6 +43,12 @@ pub record SomeQueueAt (g : Image) (start v : ℕ) (marks queue events t : List 
 pub record QueueScanned (g : Image) (before : List ℕ) (start i : ℕ) (marks₀ queue₀ events₀ marks queue events t t′ : List ℕ) : Type 0 where
   pub is : QueueAt g before start (suc i) marks₀ queue₀ events₀ marks queue events t′
   pub more : total t < total t′
+
+-- What the scan of the next vertex promises, whatever the search and the areas as lent.
+abbrev pub Scans : Image → (marks queue events t marks′ queue′ events′ t′ : List ℕ) → Type 0
+Scans g marks queue events t marks′ queue′ events′ t′ =
+    (before : List ℕ) (start i : ℕ) (marks₀ queue₀ events₀ : List ℕ) → QueueAt g before start i marks₀ queue₀ events₀ marks queue events t
+    → QueueScanned g before start i marks₀ queue₀ events₀ marks′ queue′ events′ t t′
 
 -- The search can begin.
 pub record CanSearch (g : Image) (before : List ℕ) (start : ℕ) (marks queue events : List ℕ) : Type 0 where

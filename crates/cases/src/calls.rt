@@ -65,7 +65,7 @@ pub(crate) fn read_profile(text: &[u8], after: &mut [u16], tail: &mut [u16]) -> 
     }
 }
 
-// What is told of the walk of a text, as one number: the bytes that are printed, and its number.
+// What is told of the walk of a text or the line of a refusal, as one number: the bytes that are printed, and the call's number.
 pub(crate) fn reported(number: u16, bytes: usize) -> u64 {
     bytes as u64 % 4294967296 * 65536 + number as u64
 }
@@ -79,6 +79,11 @@ pub(crate) fn walk_text(
     output: &mut [u8],
 ) -> u64 {
     let r = report::walk_text(text, after, tail, marks, events, output);
+    reported(r.number, r.bytes)
+}
+
+pub(crate) fn refusal_line(number: u16, output: &mut [u8]) -> u64 {
+    let r = report::refusal_line(number, output);
     reported(r.number, r.bytes)
 }
 

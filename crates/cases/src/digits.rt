@@ -151,7 +151,7 @@ fn draw_place(seed: u64) -> usize {
 }
 
 // A number with one digit, two, three, or any.
-fn draw_number(seed: u64) -> u16 {
+pub(crate) fn draw_number(seed: u64) -> u16 {
     let x = draw_word(seed, 62);
     match draw(seed, 64, 6) {
         0 => x % 10,

@@ -17,6 +17,7 @@ mod printed;
 mod profiles;
 mod queries;
 mod reader;
+mod refusals;
 mod rows;
 mod search;
 mod tally;
@@ -82,6 +83,14 @@ fn walk_case(d: &mut Desk, text: &mut Text, group: u16, i: usize) -> Outcome {
     }
 }
 
+// Case i of a group on the lines of refusals.
+fn line_case(text: &mut Text, group: u16, i: usize) -> Outcome {
+    match group {
+        21 => refusals::number_case(text, i),
+        _ => refusals::room_case(text, i),
+    }
+}
+
 // Case i of a group.
 fn case(d: &mut Desk, text: &mut Text, group: u16, i: usize) -> Outcome {
     match group {
@@ -89,7 +98,8 @@ fn case(d: &mut Desk, text: &mut Text, group: u16, i: usize) -> Outcome {
         6..=8 => array_case(d, group, i),
         9..=11 => text_case(d, text, group, i),
         12..=16 => number_case(text, group, i),
-        _ => walk_case(d, text, group, i),
+        17..=20 => walk_case(d, text, group, i),
+        _ => line_case(text, group, i),
     }
 }
 
@@ -147,6 +157,11 @@ fn print_walks() {
     print(b"walk_text: padded and not", 20, 603);
 }
 
+fn print_lines() {
+    print(b"refusal_line: every number", 21, 65536);
+    print(b"refusal_line: with and without room", 22, 4041);
+}
+
 fn main() {
     io::write_all(
         1,
@@ -157,4 +172,5 @@ fn main() {
     print_texts();
     print_numbers();
     print_walks();
+    print_lines();
 }

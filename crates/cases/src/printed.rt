@@ -1,4 +1,4 @@
-// What is printed of a text, by the second writer: the events and the counts of the search on the desk, or a refusal.
+// What is printed, by the second writer: of a text the events and the counts of the search on the desk, and the line of a refusal.
 use crate::areas::COUNTS;
 use crate::areas::Desk;
 use crate::areas::Text;
@@ -58,14 +58,15 @@ pub(crate) fn put_walk(text: &mut Text, d: &Desk) -> usize {
     )
 }
 
-// The walk on the desk where the number is 0; else the refusal, of which nothing is printed where there is no room for it.
-pub(crate) fn put_report(text: &mut Text, d: &Desk, k: u16, room: usize) -> usize {
-    if k == 0 {
-        return put_walk(text, d);
-    }
-    let a = put_names(text, 0, b"refused,");
-    let b = put_field(text, a, k as u64, UNPADDED, 10);
-    if room < b { 0 } else { b }
+// The walk on the desk where the number of the text is 0; of a refused text nothing.
+pub(crate) fn put_report(text: &mut Text, d: &Desk, k: u16) -> usize {
+    if k == 0 { put_walk(text, d) } else { 0 }
+}
+
+// The line of a refusal, from the start of the text on; how many bytes it has.
+pub(crate) fn put_refusal(text: &mut Text, k: u16) -> usize {
+    let past = put_names(text, 0, b"refused,");
+    put_field(text, past, k as u64, UNPADDED, 10)
 }
 
 // Whether an output area that was blank does not hold the first `length` bytes of a text, and else its old bytes.

@@ -1,6 +1,6 @@
 // Texts whose walk is written down, or whose number: document 01's example, as it stands and padded, the rows of the table of texts, a
 // chain of 1,000 vertices, a ring of them and the longest walk, profiles with a circle and without, areas that are too short and outputs
-// without room.
+// as short as the line of a refusal.
 use crate::areas::COUNTS;
 use crate::areas::Desk;
 use crate::areas::LISTED;
@@ -119,7 +119,7 @@ fn text_case(d: &mut Desk, text: &mut Text, i: usize) -> Outcome {
 }
 
 // One area one word short: 3, but behind 12 and 1 and before 4 and 6; at the limits, with the area as long as stated too. Then
-// outputs of 12 to 8 bytes: there is room for `refused,3` in 10, and for `refused,12` in 11.
+// outputs of 12 to 8 bytes, some with room for the line of the refusal: it is not printed.
 fn short_case(d: &mut Desk, text: &mut Text, i: usize) -> Outcome {
     let one = i % 5;
     match i / 5 {

@@ -1,5 +1,5 @@
-// The walk of a text: its number, every byte of what is printed and every word of the areas, against the second reader, the second
-// search and the second writer. The circular figure of a small listing is told by the closure of its lines too.
+// The walk of a text: its number, every byte of the output and every word of the areas, against the second reader, the second search and
+// the second writer; a refused text leaves all of them. The circular figure of a small listing is told by the closure of its lines too.
 use crate::areas::AFTER;
 use crate::areas::Desk;
 use crate::areas::LABELS;
@@ -97,9 +97,9 @@ fn searched_differs(d: &mut Desk, second: u64) -> bool {
     areas_differ(d, n, m) || circle_differs(d, n, m, word(second))
 }
 
-// Compares what is reported and printed, into `room` bytes, with what is to be printed; it comes into the text.
-fn compared(d: &Desk, text: &mut Text, first: u64, k: u16, output: &[u8], room: usize) -> Outcome {
-    let length = put_report(text, d, k, room);
+// Compares what is reported and printed with what is to be printed; it comes into the text.
+fn compared(d: &Desk, text: &mut Text, first: u64, k: u16, output: &[u8]) -> Outcome {
+    let length = put_report(text, d, k);
     let differs = output_differs(output, text, length);
     also(word(first), differs || first != reported(k, length))
 }
@@ -124,14 +124,7 @@ pub(crate) fn walked(
         less,
     );
     let differs = searched_differs(d, second) || events_differ(&events, d);
-    let o = compared(
-        d,
-        text,
-        first,
-        answer(second),
-        &output,
-        length_of(4, one, less),
-    );
+    let o = compared(d, text, first, answer(second), &output);
     also(o, differs)
 }
 

@@ -21,6 +21,8 @@ use Rattle.graphs.specs.Graph.{Graph}
 use Rattle.graphs.specs.Events.{event, label, advance-tree, advance-nontree, retreat-tree, retreat-nontree, scan, History, _▸_, known, labelled}
 use Rattle.graphs.specs.ArrayForm.{ArrayForm, arrayGraph}
 use Rattle.graphs.specs.Results.{blankMark, unlessBlank, lastTree, incrementWord, incrementLeft}
+use Rattle.graphs.specs.Refusals.{unlessRefused}
+use Rattle.graphs.proofs.Refusals.{refused}
 use Rattle.graphs.proofs.ArraySound.{ArraySound}
 use Rattle.graphs.proofs.Owned.{values-in, array-owned}
 use Rattle.graphs.proofs.Room.{array-ready}
@@ -28,14 +30,17 @@ use Rattle.graphs.proofs.Places.{Frame, frame, parent, path, Above, of-rest, sc
 use Rattle.graphs.proofs.Trees.{AllTrees, no-tree, all-trees}
 use Rattle.graphs.proofs.Tails.{tails-length, tails-kept}
 use Rattle.arrays.specs.Arrays.{arrayIn}
-use Rattle.walks.specs.declared.place.Place.{Place}
-use Rattle.walks.specs.declared.depth.Progress.{Progress}
-use Rattle.walks.specs.Progress.{depthTally}
+use Rattle.walks.specs.declared.write.Walked.{Walked}
+use Rattle.walks.specs.Promises.{arrayWalkNumber, arrayWalk, ArrayPromise}
+use Rattle.walks.specs.Writing.{noEvents, total}
 use Rattle.walks.specs.Moves.{Underway}
 use Rattle.walks.proofs.Storing.{all-cleared}
-use Rattle.walks.proofs.Progress.{Emits, Puts, Starts}
+use Rattle.walks.proofs.Begins.{refused-promised, taken-promised}
+use Rattle.walks.proofs.ArrayBegins.{array-begins}
+use Rattle.walks.proofs.Writing.{Emits, Puts, Starts}
 use Rattle.walks.proofs.Moves as moves
-use Rattle.depth_array.specs.Increments.{ahead, tailsLeft, lastFrom, Left, isNew, CanSearch, ArrayAt, SomeArrayAt, Ended}
+use Rattle.depth_array.specs.declared.array.Place.{Place}
+use Rattle.depth_array.specs.Increments.{ahead, tailsLeft, lastFrom, Left, isNew, CanSearch, place, ArrayAt, SomeArrayAt, Onward, Ended}
 
 -- ---- positions
 -- Position p is named n + p.
@@ -244,34 +249,48 @@ pub record Within (a : ArrayForm) (tails increments : List ℕ) (p : Place) : Ty
   pub long-firsts : a .n < length (a .firsts)
   pub long-tails : a .m ≤ length tails
   pub long-increments : a .n ≤ length increments
-  pub low-vertex : 1 ≤ p .v
-  pub high-vertex : p .v ≤ a .n
-  pub low : 1 ≤ p .e
-  pub from : getD (a .firsts) (p .v - 1) 0 ≤ p .e
-  pub up-to : p .e ≤ getD (a .firsts) (p .v) 0
+  pub low-vertex : 1 ≤ p .v .0
+  pub high-vertex : p .v .0 ≤ a .n
+  pub low : 1 ≤ p .p .0
+  pub from : getD (a .firsts) (p .v .0 - 1) 0 ≤ p .p .0
+  pub up-to : p .p .0 ≤ getD (a .firsts) (p .v .0) 0
 
 -- The numbers where an edge is ahead: its position is one, and its tail a vertex.
 pub record Tail (a : ArrayForm) (tails marks : List ℕ) (p : Place) : Type 0 where
-  pub high : p .e ≤ a .m
-  pub low-tail : 1 ≤ getD tails (p .e - 1) 0
-  pub high-tail : getD tails (p .e - 1) 0 ≤ a .n
+  pub high : p .p .0 ≤ a .m
+  pub low-tail : 1 ≤ getD tails (p .p .0 - 1) 0
+  pub high-tail : getD tails (p .p .0 - 1) 0 ≤ a .n
   pub long-marks : a .n ≤ length marks
-  pub few : 2 + p .progress .events ≤ 10000
+  pub few : 2 + total (p .tally) ≤ 10000
 
 -- The numbers where v is left along a tree edge: its parent is a vertex, and the edge has a position.
 pub record Back (a : ArrayForm) (increments : List ℕ) (p : Place) : Type 0 where
-  pub low-parent : 1 ≤ p .f
-  pub high-parent : p .f ≤ a .n
-  pub some : 1 ≤ getD increments (p .f - 1) 0
-  pub low : 1 ≤ getD (a .firsts) (p .f - 1) 0 + getD increments (p .f - 1) 0 - 1
-  pub high : getD (a .firsts) (p .f - 1) 0 + getD increments (p .f - 1) 0 - 1 ≤ a .m
-  pub few : 2 + p .progress .events ≤ 10000
+  pub low-parent : 1 ≤ p .f .0
+  pub high-parent : p .f .0 ≤ a .n
+  pub some : 1 ≤ getD increments (p .f .0 - 1) 0
+  pub low : 1 ≤ getD (a .firsts) (p .f .0 - 1) 0 + getD increments (p .f .0 - 1) 0 - 1
+  pub high : getD (a .firsts) (p .f .0 - 1) 0 + getD increments (p .f .0 - 1) 0 - 1 ≤ a .m
+  pub few : 2 + total (p .tally) ≤ 10000
 
 module _ {a : ArrayForm} {before : List ℕ} {start : ℕ} {marks₀ increments₀ events₀ tails marks increments events : List ℕ} {p : Place} (A : ArrayAt a before start marks₀ increments₀ events₀ tails marks increments events p) where
   abbrev G : Graph
   G = arrayGraph a
 
-  vertex : Vertex (a .n) (p .v)
+  -- The vertex being scanned, the position next to traverse, and the trailer.
+  abbrev v : ℕ
+  v = p .v .0
+
+  abbrev e : ℕ
+  e = p .p .0
+
+  abbrev f : ℕ
+  f = p .f .0
+
+  -- The search underway, with the edges `rest` ahead and the frames s.
+  abbrev Way : List ℕ → List Frame → Type 0
+  Way rest s = Underway G (a .n + a .m) before start (A .h) v (A .done) rest s marks₀ events₀ marks events (p .tally)
+
+  vertex : Vertex (a .n) v
   vertex = A .underway .scene .placed .vertex
 
   tails-same : length tails ≡ length (a .tails)
@@ -286,7 +305,7 @@ module _ {a : ArrayForm} {before : List ℕ} {start : ℕ} {marks₀ increments�
       let hv = vertex in
       let l = A .low in
       let g = A .high in
-      let one = S .from-one (p .v) (hv .0) (omega arith) in
+      let one = S .from-one v (hv .0) (omega arith) in
       record {
         few-vertices = S .few-vertices;
         few-edges = S .few-edges;
@@ -296,8 +315,8 @@ module _ {a : ArrayForm} {before : List ℕ} {start : ℕ} {marks₀ increments�
         low-vertex = hv .0;
         high-vertex = hv .1;
         low = omega arith;
-        from = omega (arith, read-at (a .firsts) (p .v));
-        up-to = omega (arith, word-here (a .firsts) (p .v));
+        from = omega (arith, read-at (a .firsts) v);
+        up-to = omega (arith, word-here (a .firsts) v);
       }
 
   -- The word of a vertex in the increment area.
@@ -305,23 +324,23 @@ module _ {a : ArrayForm} {before : List ℕ} {start : ℕ} {marks₀ increments�
   increment-is x = sym (read-at increments x) ∙ ap (λ (l : List ℕ). at 0 l x) (A .increments-left)
 
   -- ---- along an edge
-  module _ (more : p .e < at 0 (a .firsts) (suc (p .v))) where
+  module _ (more : e < at 0 (a .firsts) (suc v)) where
     abbrev r : ℕ
-    r = a .n + p .e
+    r = a .n + e
 
     -- The vertex that it leads to, as the code reads it.
     abbrev x : ℕ
-    x = getD tails (p .e - 1) 0
+    x = getD tails (e - 1) 0
 
-    on : Underway G (a .n + a .m) before start (A .h) (p .v) (A .done) (r ∷ ahead a (p .v) (suc (p .e))) (A .s) marks₀ events₀ marks events (p .progress)
-    on = subst (λ (l : List ℕ). Underway G (a .n + a .m) before start (A .h) (p .v) (A .done) l (A .s) marks₀ events₀ marks events (p .progress)) (ahead-next a (p .v) (p .e) (within .low) more) (A .underway)
+    on : Way (r ∷ ahead a v (suc e)) (A .s)
+    on = subst (λ (l : List ℕ). Way l (A .s)) (ahead-next a v e (within .low) more) (A .underway)
 
     leads : G .to r ≡ x
     leads =
         let P = on .scene .placed in
-        sym (tails-kept (array-owned a (A .sound)) (λ du fs. parent fs) (a .tails) start (A .s) (p .v) (p .v) r (P .above) vertex (scene-edge G before start (on .scene)) (P .distinct .0))
+        sym (tails-kept (array-owned a (A .sound)) (λ du fs. parent fs) (a .tails) start (A .s) v v r (P .above) vertex (scene-edge G before start (on .scene)) (P .distinct .0))
         ∙ ap (λ (l : List ℕ). at (a .n) l r) (sym (A .bent))
-        ∙ tail-at (a .n) tails (p .e)
+        ∙ tail-at (a .n) tails e
 
     target : Vertex (a .n) x
     target = subst (Vertex (a .n)) leads (moves.target-vertex on)
@@ -329,12 +348,12 @@ module _ {a : ArrayForm} {before : List ℕ} {start : ℕ} {marks₀ increments�
     pub tail : Tail a tails marks p
     tail =
         let w = within in
-        let top = A .sound .from-one (suc (p .v)) (omega arith) (omega arith) in
+        let top = A .sound .from-one (suc v) (omega arith) (omega arith) in
         record { high = omega (arith, more); low-tail = target .0; high-tail = target .1; long-marks = omega (arith, moves.move-lengths on .0, on .roomy .long-marks); few = moves.ahead-few on }
 
     -- The increment and the mark of that vertex tell whether it is labelled or on the blank.
     abbrev new-words : Bool
-    new-words = isNew (getD increments (getD tails (p .e - 1) 0 - 1) 0) (getD marks (getD tails (p .e - 1) 0 - 1) 0)
+    new-words = isNew (getD increments (getD tails (e - 1) 0 - 1) 0) (getD marks (getD tails (e - 1) 0 - 1) 0)
 
     new-test : new-words ≡ not (memb x (known before (A .h)))
     new-test =
@@ -346,7 +365,11 @@ module _ {a : ArrayForm} {before : List ℕ} {start : ℕ} {marks₀ increments�
         labelled-is = ap (λ (w : ℕ). eqb w 0) (increment-is x) ∙ increment-test G (A .h) increments₀ x target
 
         mark-is : getD marks (x - 1) 0 ≡ unlessBlank before (λ y. rank y (labelled (A .h))) x
-        mark-is = sym (read-at marks x) ∙ ap (λ (l : List ℕ). at 0 l x) (on .areas .marked) ∙ at-filled (unlessBlank before (λ y. rank y (labelled (A .h)))) (a .n + a .m) marks₀ x (target .0) (let b = target in omega arith)
+        mark-is =
+            let b = target in
+            sym (read-at marks x)
+            ∙ ap (λ (l : List ℕ). at 0 l x) (on .held .marked)
+            ∙ at-filled (unlessBlank before (λ y. rank y (labelled (A .h)))) (a .n + a .m) marks₀ x (target .0) (omega arith)
 
         go : (b l : Bool) → memb x (labelled (A .h)) ≡ l → (not l && not (eqb (cond b blankMark (rank x (labelled (A .h)))) blankMark)) ≡ not (l || b)
         go b true e = refl
@@ -354,23 +377,25 @@ module _ {a : ArrayForm} {before : List ℕ} {start : ℕ} {marks₀ increments�
         go false false e = ap (λ (k : ℕ). not (eqb k blankMark)) (rank-none x (labelled (A .h)) (memb-false x (labelled (A .h)) e))
 
     -- It leads to a labelled vertex, or one on the blank: on to the next position.
-    module _ {t₁ t₂ : Progress} {events₁ events₂ : List ℕ} (one : Emits 3 (a .n + p .e) (p .v) events (p .progress) events₁ t₁) (two : Emits 4 (a .n + p .e) (p .v) events₁ t₁ events₂ t₂) where
-      pub nontree-words : t₂ .events ≡ 2 + p .progress .events
+    module _ {t₁ t₂ events₁ events₂ : List ℕ} (one : Emits 3 (a .n + e) v events (p .tally) events₁ t₁) (two : Emits 4 (a .n + e) v events₁ t₁ events₂ t₂) where
+      pub nontree-words : total t₂ ≡ 2 + total (p .tally)
       nontree-words = moves.pass-total on one two
 
-      pub nontree-move : new-words ≡ false → ArrayAt a before start marks₀ increments₀ events₀ tails marks increments events₂ (record { v = p .v; e = p .e + 1; f = p .f; progress = t₂ })
+      pub nontree-move : new-words ≡ false → ArrayAt a before start marks₀ increments₀ events₀ tails marks increments events₂ (place v (e + 1) f t₂)
       nontree-move old =
-          let i : History = A .h ▸ event advance-nontree r (p .v) ▸ event retreat-nontree r (p .v) in
+          let i : History = A .h ▸ event advance-nontree r v ▸ event retreat-nontree r v in
           let m : memb x (known before (A .h)) ≡ true = not-false (memb x (known before (A .h))) (sym new-test ∙ old) in
           let l = A .low in
-          let z : suc (p .e) ≡ p .e + 1 = omega arith in
+          let z : suc e ≡ e + 1 = omega arith in
           record {
             sound = A .sound;
             long = A .long;
             h = i;
             done = r ∷ A .done;
             s = A .s;
-            underway = subst (λ (e : ℕ). Underway G (a .n + a .m) before start i (p .v) (r ∷ A .done) (ahead a (p .v) e) (A .s) marks₀ events₀ marks events₂ t₂) z (moves.pass-goes on one two (ap (λ (k : ℕ). memb k (known before (A .h))) leads ∙ m));
+            underway =
+                subst (λ (k : ℕ). Underway G (a .n + a .m) before start i v (r ∷ A .done) (ahead a v k) (A .s) marks₀ events₀ marks events₂ t₂) z
+                (moves.pass-goes on one two (ap (λ (k : ℕ). memb k (known before (A .h))) leads ∙ m));
             low = omega arith;
             high = omega (arith, more);
             trailer = A .trailer;
@@ -380,24 +405,26 @@ module _ {a : ArrayForm} {before : List ℕ} {start : ℕ} {marks₀ increments�
           }
 
     -- It leads to an unlabelled vertex: that is labelled, and scanned next.
-    module _ {t₁ t₂ : Progress} {events₁ marks₂ events₂ : List ℕ} (one : Emits 2 (a .n + p .e) (p .v) events (p .progress) events₁ t₁) (two : Puts (getD tails (p .e - 1) 0) marks events₁ t₁ marks₂ events₂ t₂) where
+    module _ {t₁ t₂ events₁ marks₂ events₂ : List ℕ} (one : Emits 2 (a .n + e) v events (p .tally) events₁ t₁) (two : Puts (getD tails (e - 1) 0) marks events₁ t₁ marks₂ events₂ t₂) where
       unseen : new-words ≡ true → memb x (known before (A .h)) ≡ false
       unseen fresh = not-true (memb x (known before (A .h))) (sym new-test ∙ fresh)
 
-      pub tree-words : new-words ≡ true → t₂ .events ≡ 2 + p .progress .events
+      pub tree-words : new-words ≡ true → total t₂ ≡ 2 + total (p .tally)
       tree-words fresh = moves.tree-total on one x leads two (unseen fresh)
 
-      pub tree-move : new-words ≡ true → ArrayAt a before start marks₀ increments₀ events₀ (set tails (p .e - 1) (p .f)) marks₂ (set (set increments (p .v - 1) (p .e - getD (a .firsts) (p .v - 1) 0 + 1)) (getD tails (p .e - 1) 0 - 1) 1) events₂ (record { v = getD tails (p .e - 1) 0; e = getD (a .firsts) (getD tails (p .e - 1) 0 - 1) 0; f = p .v; progress = t₂ })
+      pub tree-move : new-words ≡ true
+          → ArrayAt a before start marks₀ increments₀ events₀ (set tails (e - 1) f) marks₂ (set (set increments (v - 1) (e - getD (a .firsts) (v - 1) 0 + 1)) (getD tails (e - 1) 0 - 1) 1) events₂
+          (place (getD tails (e - 1) 0) (getD (a .firsts) (getD tails (e - 1) 0 - 1) 0) v t₂)
       tree-move fresh =
-          let i : History = A .h ▸ event advance-tree r (p .v) ▸ event label 0 x in
-          let s : List Frame = frame (p .v) (A .done) r (ahead a (p .v) (suc (p .e))) ∷ A .s in
+          let i : History = A .h ▸ event advance-tree r v ▸ event label 0 x in
+          let s : List Frame = frame v (A .done) r (ahead a v (suc e)) ∷ A .s in
           let hx = target in
           let S = A .underway .scene in
-          let seen : Mem (p .v) (labelled (A .h)) = S .seen (p .v) (here refl) in
+          let seen : Mem v (labelled (A .h)) = S .seen v (here refl) in
           let new : Mem x (labelled (A .h)) → ⊥ = λ k. memb-false x (known before (A .h)) (unseen fresh) (mem-left before k) in
-          let w : ℕ = p .e - getD (a .firsts) (p .v - 1) 0 + 1 in
+          let w : ℕ = e - getD (a .firsts) (v - 1) 0 + 1 in
           let rise = A .sound .rising x (suc x) (hx .0) (omega arith) (omega arith) in
-          let is : rank r (reverse (G .out (p .v))) ≡ w = omega (arith, edge-rank a (A .sound) (p .v) (p .e) vertex (A .low) more, read-at (a .firsts) (p .v)) in
+          let is : rank r (reverse (G .out v)) ≡ w = omega (arith, edge-rank a (A .sound) v e vertex (A .low) more, read-at (a .firsts) v) in
           record {
             sound = A .sound;
             long = A .long;
@@ -408,31 +435,31 @@ module _ {a : ArrayForm} {before : List ℕ} {start : ℕ} {marks₀ increments�
             low = omega (arith, read-at (a .firsts) x);
             high = omega (arith, read-at (a .firsts) x);
             trailer = refl;
-            left = (last-own (A .h) r (p .v) x, left-keep (A .h) i (A .s) (λ u k. last-other (A .h) r (p .v) x u (λ e. S .placed .distinct .0 (subst (λ (z : ℕ). Mem z (path (A .s))) (sym e) k))) (A .left));
+            left = (last-own (A .h) r v x, left-keep (A .h) i (A .s) (λ u k. last-other (A .h) r v x u (λ e. S .placed .distinct .0 (subst (λ (z : ℕ). Mem z (path (A .s))) (sym e) k))) (A .left));
             increments-left =
-                sym (first-put (set increments (p .v - 1) w) x 1)
-                ∙ ap (λ (l : List ℕ). put 0 l x 1) (sym (first-put increments (p .v) w) ∙ ap (λ (l : List ℕ). put 0 l (p .v) w) (A .increments-left))
-                ∙ increment-tree G (A .h) increments₀ (p .v) r x vertex hx seen new (last-none (A .h) x (A .underway .trees) new) (not-null a (A .sound) x hx) w (omega arith) is;
-            bent = sym (tail-put (a .n) tails (p .e) (p .f)) ∙ (λ j. put (a .n) (A .bent j) r (A .trailer j));
+                sym (first-put (set increments (v - 1) w) x 1)
+                ∙ ap (λ (l : List ℕ). put 0 l x 1) (sym (first-put increments v w) ∙ ap (λ (l : List ℕ). put 0 l v w) (A .increments-left))
+                ∙ increment-tree G (A .h) increments₀ v r x vertex hx seen new (last-none (A .h) x (A .underway .trees) new) (not-null a (A .sound) x hx) w (omega arith) is;
+            bent = sym (tail-put (a .n) tails e f) ∙ (λ j. put (a .n) (A .bent j) r (A .trailer j));
           }
 
   -- ---- no edge ahead
-  module _ (end : p .e ≡ at 0 (a .firsts) (suc (p .v))) where
-    done-at : Underway G (a .n + a .m) before start (A .h) (p .v) (A .done) [] (A .s) marks₀ events₀ marks events (p .progress)
-    done-at = subst (λ (l : List ℕ). Underway G (a .n + a .m) before start (A .h) (p .v) (A .done) l (A .s) marks₀ events₀ marks events (p .progress)) (ahead-none a (p .v) (p .e) end) (A .underway)
+  module _ (end : e ≡ at 0 (a .firsts) (suc v)) where
+    done-at : Way [] (A .s)
+    done-at = subst (λ (l : List ℕ). Way l (A .s)) (ahead-none a v e end) (A .underway)
 
     -- Back along a tree edge.
-    module _ (child : p .f ≢ 0) where
+    module _ (child : f ≢ 0) where
       F : Framed (A .s)
       F = framed (A .s) (λ e. child (A .trailer ∙ e))
 
       abbrev u : ℕ
       u = F .u
 
-      behind : Underway G (a .n + a .m) before start (A .h) (p .v) (A .done) [] (frame u (F .du) (F .r) (F .ru) ∷ F .below) marks₀ events₀ marks events (p .progress)
-      behind = subst (λ (s : List Frame). Underway G (a .n + a .m) before start (A .h) (p .v) (A .done) [] s marks₀ events₀ marks events (p .progress)) (F .is) done-at
+      behind : Way [] (frame u (F .du) (F .r) (F .ru) ∷ F .below)
+      behind = subst (λ (s : List Frame). Way [] s) (F .is) done-at
 
-      is-parent : p .f ≡ u
+      is-parent : f ≡ u
       is-parent = A .trailer ∙ ap parent (F .is)
 
       parent-vertex : Vertex (a .n) u
@@ -448,18 +475,18 @@ module _ {a : ArrayForm} {before : List ℕ} {start : ℕ} {marks₀ increments�
       bent-back = A .bent ∙ ap (tailsLeft a) (F .is)
 
       -- The parent's increment is the place of its last tree edge.
-      word-back : getD increments (p .f - 1) 0 ≡ suc (stand .p - at 0 (a .firsts) u)
+      word-back : getD increments (f - 1) 0 ≡ suc (stand .p - at 0 (a .firsts) u)
       word-back =
           let R : rank (F .r) (reverse (G .out u)) ≡ suc (stand .p - at 0 (a .firsts) u) = ap (λ (k : ℕ). rank k (reverse (G .out u))) (stand .named) ∙ edge-rank a (A .sound) u (stand .p) parent-vertex (stand .low) (stand .high) in
           let seen : memb u (labelled (A .h)) ≡ true = mem-memb (behind .scene .seen u (there (here refl))) in
           let w : incrementWord G (A .h) u ≡ suc (stand .p - at 0 (a .firsts) u) = rw (seen, left-back .0, R) (omega arith) in
-          increment-is (p .f) ∙ ap (at 0 (incrementLeft G (A .h) increments₀)) is-parent ∙ increment-at G (A .h) increments₀ u parent-vertex ∙ w
+          increment-is f ∙ ap (at 0 (incrementLeft G (A .h) increments₀)) is-parent ∙ increment-at G (A .h) increments₀ u parent-vertex ∙ w
 
       -- So its position is found.
-      position : getD (a .firsts) (p .f - 1) 0 + getD increments (p .f - 1) 0 - 1 ≡ stand .p
+      position : getD (a .firsts) (f - 1) 0 + getD increments (f - 1) 0 - 1 ≡ stand .p
       position =
           let O = stand in
-          omega (arith, word-back, sym (read-at (a .firsts) (p .f)) ∙ ap (at 0 (a .firsts)) is-parent)
+          omega (arith, word-back, sym (read-at (a .firsts) f) ∙ ap (at 0 (a .firsts)) is-parent)
 
       pub back : Back a increments p
       back =
@@ -471,18 +498,20 @@ module _ {a : ArrayForm} {before : List ℕ} {start : ℕ} {marks₀ increments�
           let e = position in
           record { low-parent = omega arith; high-parent = omega arith; low = omega arith; high = omega arith; some = omega (arith, word-back); few = moves.back-few behind }
 
-      module _ {t₁ t₂ : Progress} {events₁ events₂ : List ℕ} (one : Emits 6 0 (p .v) events (p .progress) events₁ t₁) where
-        back-at : Emits 5 (F .r) u events₁ t₁ events₂ t₂ → ArrayAt a before start marks₀ increments₀ events₀ (set tails (stand .p - 1) (p .v)) marks increments events₂ (record { v = u; e = stand .p + 1; f = getD tails (stand .p - 1) 0; progress = t₂ })
+      module _ {t₁ t₂ events₁ events₂ : List ℕ} (one : Emits 6 0 v events (p .tally) events₁ t₁) where
+        back-at : Emits 5 (F .r) u events₁ t₁ events₂ t₂
+            → ArrayAt a before start marks₀ increments₀ events₀ (set tails (stand .p - 1) v) marks increments events₂ (place u (stand .p + 1) (getD tails (stand .p - 1) 0) t₂)
         back-at two =
             let O = stand in
             let P = behind .scene .placed in
             let q : ℕ = O .p in
-            let i : History = A .h ▸ event scan 0 (p .v) ▸ event retreat-tree (F .r) u in
+            let i : History = A .h ▸ event scan 0 v ▸ event retreat-tree (F .r) u in
             let z : suc q ≡ q + 1 = omega arith in
             let edge : Mem (F .r) (G .out u) = of-rest G u (F .du) (F .r ∷ F .ru) (P .above .2) (F .r) (here refl) in
             let er = array-owned a (A .sound) .edge u (F .r) parent-vertex edge in
             let old : List ℕ = tailsLeft a (F .below) in
-            let straight : at (a .n) old (F .r) ≡ p .v = tails-kept (array-owned a (A .sound)) (λ du fs. parent fs) (a .tails) start (F .below) u u (F .r) (P .above .3) parent-vertex edge (P .distinct .1 .0) ∙ P .above .0 in
+            let kept = tails-kept (array-owned a (A .sound)) (λ du fs. parent fs) (a .tails) start (F .below) u u (F .r) (P .above .3) parent-vertex edge (P .distinct .1 .0) in
+            let straight : at (a .n) old (F .r) ≡ v = kept ∙ P .above .0 in
             record {
               sound = A .sound;
               long = A .long;
@@ -499,42 +528,51 @@ module _ {a : ArrayForm} {before : List ℕ} {start : ℕ} {marks₀ increments�
               left = left-keep (A .h) i (F .below) (λ y k. refl) (left-back .1);
               increments-left = A .increments-left;
               bent =
-                  sym (tail-put (a .n) tails q (p .v))
-                  ∙ (λ j. put (a .n) (bent-back j) (sym (O .named) j) (p .v))
-                  ∙ put-put (a .n) old (F .r) (parent (F .below)) (p .v)
+                  sym (tail-put (a .n) tails q v)
+                  ∙ (λ j. put (a .n) (bent-back j) (sym (O .named) j) v)
+                  ∙ put-put (a .n) old (F .r) (parent (F .below)) v
                   ∙ ap (put (a .n) old (F .r)) (sym straight)
                   ∙ put-at (a .n) old (F .r);
             }
 
         -- Position e and the parent, as the code has them.
-        module _ (e : ℕ) (is : e ≡ getD (a .firsts) (p .f - 1) 0 + getD increments (p .f - 1) 0 - 1) (two : Emits 5 (a .n + e) (p .f) events₁ t₁ events₂ t₂) where
-          found : _≡_ {A = ℕ × ℕ} (stand .p, u) (e, p .f)
+        module _ (e : ℕ) (is : e ≡ getD (a .firsts) (f - 1) 0 + getD increments (f - 1) 0 - 1) (two : Emits 5 (a .n + e) f events₁ t₁ events₂ t₂) where
+          found : _≡_ {A = ℕ × ℕ} (stand .p, u) (e, f)
           found = λ j. (sym (is ∙ position) j, sym is-parent j)
 
           two-back : Emits 5 (F .r) u events₁ t₁ events₂ t₂
           two-back = subst (λ (k : ℕ). Emits 5 k u events₁ t₁ events₂ t₂) (sym (stand .named)) (subst (λ (k : ℕ × ℕ). Emits 5 (a .n + k .0) (k .1) events₁ t₁ events₂ t₂) (sym found) two)
 
-          pub back-words : t₂ .events ≡ 2 + p .progress .events
+          pub back-words : total t₂ ≡ 2 + total (p .tally)
           back-words = moves.back-total behind one two-back
 
-          pub back-move : ArrayAt a before start marks₀ increments₀ events₀ (set tails (e - 1) (p .v)) marks increments events₂ (record { v = p .f; e = e + 1; f = getD tails (e - 1) 0; progress = t₂ })
-          back-move = subst (λ (k : ℕ × ℕ). ArrayAt a before start marks₀ increments₀ events₀ (set tails (k .0 - 1) (p .v)) marks increments events₂ (record { v = k .1; e = k .0 + 1; f = getD tails (k .0 - 1) 0; progress = t₂ })) found (back-at two-back)
+          pub back-move : ArrayAt a before start marks₀ increments₀ events₀ (set tails (e - 1) v) marks increments events₂ (place f (e + 1) (getD tails (e - 1) 0) t₂)
+          back-move =
+              subst (λ (k : ℕ × ℕ). ArrayAt a before start marks₀ increments₀ events₀ (set tails (k .0 - 1) v) marks increments events₂ (place (k .1) (k .0 + 1) (getD tails (k .0 - 1) 0) t₂))
+              found (back-at two-back)
 
     -- The start is being scanned.
-    module _ (root : p .f ≡ 0) where
+    module _ (root : f ≡ 0) where
       none : A .s ≡ []
-      none = unframed G start (A .s) (p .v) (A .underway .scene .placed .above) (sym (A .trailer) ∙ root)
+      none = unframed G start (A .s) v (A .underway .scene .placed .above) (sym (A .trailer) ∙ root)
 
-      bottom : Underway G (a .n + a .m) before start (A .h) (p .v) (A .done) [] [] marks₀ events₀ marks events (p .progress)
-      bottom = subst (λ (s : List Frame). Underway G (a .n + a .m) before start (A .h) (p .v) (A .done) [] s marks₀ events₀ marks events (p .progress)) none done-at
+      bottom : Way [] []
+      bottom = subst (λ (s : List Frame). Way [] s) none done-at
 
       -- Its scan is the last event.
-      pub ended : {o : Progress} {t₁ events₁ : List ℕ} → Emits 6 0 start events (p .progress) events₁ o → t₁ ≡ depthTally o → Ended a before start marks₀ increments₀ events₀ tails marks increments events₁ t₁
-      ended w c = record { held = moves.end-held bottom w c; increments-left = A .increments-left ∙ ap (λ (i : History). incrementLeft G i increments₀) (moves.end-is bottom); tails-left = A .bent ∙ ap (tailsLeft a) none }
+      pub ended : {t₁ events₁ : List ℕ} → Emits 6 0 start events (p .tally) events₁ t₁ → Ended a before start marks₀ increments₀ events₀ tails marks increments events₁ t₁
+      ended w = record {
+        held = moves.end-held bottom w;
+        increments-left = A .increments-left ∙ ap (λ (i : History). incrementLeft G i increments₀) (moves.end-is bottom);
+        tails-left = A .bent ∙ ap (tailsLeft a) none;
+      }
 
 -- ---- the start
 module _ {a : ArrayForm} {before : List ℕ} {start : ℕ} {marks increments events : List ℕ} (C : CanSearch a before start marks increments events) where
-  pub begun : {marks₁ increments₁ events₁ : List ℕ} {t₁ : Progress} → increments₁ ≡ cleared (min (a .n) (length increments)) increments → Starts (a .n + a .m) before start marks events marks₁ events₁ t₁ → ArrayAt a before start marks increments events (a .tails) marks₁ (set increments₁ (start - 1) 1) events₁ (record { v = start; e = getD (a .firsts) (start - 1) 0; f = 0; progress = t₁ })
+  pub begun : {marks₁ increments₁ events₁ t₁ : List ℕ}
+      → increments₁ ≡ cleared (min (a .n) (length increments)) increments
+      → Starts (a .n + a .m) before start marks events marks₁ events₁ t₁
+      → ArrayAt a before start marks increments events (a .tails) marks₁ (set increments₁ (start - 1) 1) events₁ (place start (getD (a .firsts) (start - 1) 0) 0 t₁)
   begun {marks₁} {increments₁} {events₁} {t₁} c w =
       let G : Graph = arrayGraph a in
       let hs = C .start-vertex in
@@ -558,15 +596,34 @@ module _ {a : ArrayForm} {before : List ℕ} {start : ℕ} {marks increments eve
       }
 
 -- ---- from place to place
--- Whatever areas were lent, the search goes on from one place to another.
-abbrev pub Onward : (n m start : ℕ) (firsts tails marks increments events : List ℕ) (p : Place) (tails₁ marks₁ increments₁ events₁ : List ℕ) (q : Place) → Type 0
-Onward n m start firsts tails marks increments events p tails₁ marks₁ increments₁ events₁ q = (before tails₀ marks₀ increments₀ events₀ : List ℕ) → ArrayAt (arrayIn n m firsts tails₀) before start marks₀ increments₀ events₀ tails marks increments events p → ArrayAt (arrayIn n m firsts tails₀) before start marks₀ increments₀ events₀ tails₁ marks₁ increments₁ events₁ q
+module _ {n m : ℕ} {firsts tails marks increments events : List ℕ} {p : Place} {tails₁ marks₁ increments₁ events₁ : List ℕ} {q : Place}
+    (o : Onward n m firsts tails marks increments events p tails₁ marks₁ increments₁ events₁ q) where
+  pub some-onward : SomeArrayAt n m firsts tails marks increments events p → SomeArrayAt n m firsts tails₁ marks₁ increments₁ events₁ q
+  some-onward S = record {
+    before = S .before;
+    start = S .start;
+    tails₀ = S .tails₀;
+    marks₀ = S .marks₀;
+    increments₀ = S .increments₀;
+    events₀ = S .events₀;
+    is = o (S .before) (S .start) (S .tails₀) (S .marks₀) (S .increments₀) (S .events₀) (S .is);
+  }
 
-pub some-onward : {n m start : ℕ} {firsts tails marks increments events : List ℕ} {p : Place} {tails₁ marks₁ increments₁ events₁ : List ℕ} {q : Place} → SomeArrayAt n m start firsts tails marks increments events p → Onward n m start firsts tails marks increments events p tails₁ marks₁ increments₁ events₁ q → SomeArrayAt n m start firsts tails₁ marks₁ increments₁ events₁ q
-some-onward S o = record { before = S .before; tails₀ = S .tails₀; marks₀ = S .marks₀; increments₀ = S .increments₀; events₀ = S .events₀; is = o (S .before) (S .tails₀) (S .marks₀) (S .increments₀) (S .events₀) (S .is) }
+  pub onward-then : {tails₂ marks₂ increments₂ events₂ : List ℕ} {r : Place} → Onward n m firsts tails₁ marks₁ increments₁ events₁ q tails₂ marks₂ increments₂ events₂ r
+      → Onward n m firsts tails marks increments events p tails₂ marks₂ increments₂ events₂ r
+  onward-then w before start tails₀ marks₀ increments₀ events₀ A = w before start tails₀ marks₀ increments₀ events₀ (o before start tails₀ marks₀ increments₀ events₀ A)
 
-pub some-at : {n m : ℕ} {before : List ℕ} {start : ℕ} {firsts tails₀ marks₀ increments₀ events₀ tails marks increments events : List ℕ} {p : Place} → ArrayAt (arrayIn n m firsts tails₀) before start marks₀ increments₀ events₀ tails marks increments events p → SomeArrayAt n m start firsts tails marks increments events p
-some-at {before = before} {tails₀ = tails₀} {marks₀ = marks₀} {increments₀ = increments₀} {events₀ = events₀} A = record { before = before; tails₀ = tails₀; marks₀ = marks₀; increments₀ = increments₀; events₀ = events₀; is = A }
+pub some-at : {n m : ℕ} {before : List ℕ} {start : ℕ} {firsts tails₀ marks₀ increments₀ events₀ tails marks increments events : List ℕ} {p : Place}
+    → ArrayAt (arrayIn n m firsts tails₀) before start marks₀ increments₀ events₀ tails marks increments events p → SomeArrayAt n m firsts tails marks increments events p
+some-at {before = before} {start} {tails₀ = tails₀} {marks₀} {increments₀} {events₀} A = record {
+  before = before;
+  start = start;
+  tails₀ = tails₀;
+  marks₀ = marks₀;
+  increments₀ = increments₀;
+  events₀ = events₀;
+  is = A;
+}
 
 -- The areas keep their lengths.
 pub record Long (tails₀ marks₀ increments₀ events₀ tails marks increments events : List ℕ) : Type 0 where
@@ -578,11 +635,18 @@ pub record Long (tails₀ marks₀ increments₀ events₀ tails marks increment
 lengths : {a : ArrayForm} {before : List ℕ} {start : ℕ} {marks₀ increments₀ events₀ tails marks increments events : List ℕ} {p : Place} → ArrayAt a before start marks₀ increments₀ events₀ tails marks increments events p → Long (a .tails) marks₀ increments₀ events₀ tails marks increments events
 lengths A = let l = moves.move-lengths (A .underway) in record { tails-long = tails-same A; marks-long = l .0; increments-long = increments-same A; events-long = l .1 }
 
-pub kept : {n m start : ℕ} {firsts tails marks increments events : List ℕ} {p : Place} {tails₁ marks₁ increments₁ events₁ : List ℕ} {q : Place} → SomeArrayAt n m start firsts tails marks increments events p → Onward n m start firsts tails marks increments events p tails₁ marks₁ increments₁ events₁ q → Long tails marks increments events tails₁ marks₁ increments₁ events₁
+pub kept : {n m : ℕ} {firsts tails marks increments events : List ℕ} {p : Place} {tails₁ marks₁ increments₁ events₁ : List ℕ} {q : Place} → SomeArrayAt n m firsts tails marks increments events p
+    → Onward n m firsts tails marks increments events p tails₁ marks₁ increments₁ events₁ q
+    → Long tails marks increments events tails₁ marks₁ increments₁ events₁
 kept S o =
     let x = lengths (S .is) in
-    let y = lengths (o (S .before) (S .tails₀) (S .marks₀) (S .increments₀) (S .events₀) (S .is)) in
-    record { tails-long = y .tails-long ∙ sym (x .tails-long); marks-long = y .marks-long ∙ sym (x .marks-long); increments-long = y .increments-long ∙ sym (x .increments-long); events-long = y .events-long ∙ sym (x .events-long) }
+    let y = lengths (o (S .before) (S .start) (S .tails₀) (S .marks₀) (S .increments₀) (S .events₀) (S .is)) in
+    record {
+      tails-long = y .tails-long ∙ sym (x .tails-long);
+      marks-long = y .marks-long ∙ sym (x .marks-long);
+      increments-long = y .increments-long ∙ sym (x .increments-long);
+      events-long = y .events-long ∙ sym (x .events-long);
+    }
 
 -- An edge is ahead of v, or none.
 pub is-ahead : (firsts : List ℕ) (v e : ℕ) → e < getD firsts v 0 → e < at 0 firsts (suc v)
@@ -590,3 +654,24 @@ is-ahead firsts v e l = omega (arith, word-here firsts v)
 
 pub is-done : (firsts : List ℕ) (v e : ℕ) → e ≤ getD firsts v 0 → getD firsts v 0 ≤ e → e ≡ at 0 firsts (suc v)
 is-done firsts v e l g = omega (arith, word-here firsts v)
+
+-- ---- the walk
+module _ (a : ArrayForm) (before : List ℕ) (start : ℕ) (marks increments events : List ℕ) {k : ℕ} (is : k ≡ arrayWalkNumber a before start marks increments events) where
+  -- What the walk leaves in the tails and in the increment area.
+  abbrev Kept : Walked → (tails′ increments′ : List ℕ) → Type 0
+  Kept r tails′ increments′ = (tails′ ≡ a .tails) × (increments′ ≡ unlessRefused (r .number) (incrementLeft (arrayGraph a) (arrayWalk a before start) increments) increments)
+
+  -- A walk refused leaves all as it was.
+  pub walk-refused : {r : Walked} → (r .number ≡ k) × (r .tally ≡ noEvents) → k ≢ 0 → ArrayPromise a before start increments marks events r marks events × Kept r (a .tails) increments
+  walk-refused {r} f ne =
+      let kept = refused (r .number) (incrementLeft (arrayGraph a) (arrayWalk a before start) increments) increments (λ e. ne (sym (f .0) ∙ e)) in
+      (refused-promised is ne f, (refl, kept))
+
+  -- A walk taken can begin.
+  pub walk-begins : k ≡ 0 → CanSearch a before start marks increments events
+  walk-begins z = array-begins a before start marks increments events (sym is ∙ z)
+
+  -- And leaves what the search leaves.
+  pub walk-ends : {tails′ marks′ increments′ events′ t : List ℕ} → k ≡ 0 → Ended a before start marks increments events tails′ marks′ increments′ events′ t
+      → (let r : Walked = record { number = 0; tally = t } in ArrayPromise a before start increments marks events r marks′ events′ × Kept r tails′ increments′)
+  walk-ends z E = (taken-promised (sym is ∙ z) refl (E .held), (E .tails-left, E .increments-left))

@@ -1,27 +1,38 @@
 // Depth-first search over the array form (the paper's last version): an increment for each vertex says which of its edges was the last
 // tree edge; the tail of a tree edge under way holds the parent of the vertex that the edge leaves, and gets its vertex back. Position p is named n + p.
+use images::Edge;
 use images::Vertex;
-use walks::Place;
 use walks::Walked;
 use walks::array_walk_number;
+use walks::begin;
 use walks::clear;
-use walks::depth::begin;
-use walks::depth::emit;
-use walks::depth::label;
-use walks::depth::tally;
+use walks::emit;
+use walks::label;
 use walks::refused;
 ghost use mathlib.Core.Path.{_≡_};
 ghost use mathlib.Core.Logic.{_≢_};
-ghost use mathlib.Core.List.{List};
-ghost use Prim.Native.Nat.{ℕ, suc, _+_, _<_, _≤_};
+ghost use Prim.Native.Nat.{suc, _+_, _<_, _≤_};
 ghost use lib.ListN.{length, getD};
 ghost use Rattle.lists.specs.Words.{at};
 ghost use Rattle.graphs.specs.ArrayForm.{arrayGraph};
-ghost use Rattle.graphs.specs.Results.{marksLeft, eventsLeft, incrementLeft};
+ghost use Rattle.graphs.specs.Results.{incrementLeft};
 ghost use Rattle.graphs.specs.Refusals.{unlessRefused};
 ghost use Rattle.arrays.specs.Arrays.{arrayIn};
-ghost use Rattle.walks.specs.Promises.{arrayWalkNumber, arrayWalk, tallied};
-ghost use Rattle.depth_array.specs.Increments.{isNew, ArrayAt, SomeArrayAt, CanSearch, Ended};
+ghost use Rattle.walks.specs.Promises.{arrayWalk, ArrayPromise};
+ghost use Rattle.walks.specs.Writing.{total};
+ghost use Rattle.depth_array.specs.Increments.{isNew, ArrayAt, SomeArrayAt, Onward, CanSearch, Ended};
+
+// A position in the tails.
+pub(crate) struct Position(pub u16);
+
+// The place that the search has come to: the vertex being scanned, the position next to traverse, the parent of that vertex, 0 for the
+// start, and the tally.
+pub(crate) struct Place {
+    pub v: Vertex,
+    pub p: Position,
+    pub f: Vertex,
+    pub tally: [u32; 7],
+}
 
 // Whether the vertex of these words is not labelled: its increment is 0, and it is not on the blank.
 fn is_new(increments: &[u16], marks: &[u16], i: usize) -> bool
@@ -34,51 +45,54 @@ fn is_new(increments: &[u16], marks: &[u16], i: usize) -> bool
     marks[i] != 65535
 }
 
-// Traverses position e, the trailer being the parent of v: on to the vertex that it leads to where that is not labelled, else to the next
+// Traverses position p, the trailer being the parent of v: on to the vertex that it leads to where that is not labelled, else to the next
 // position.
 fn advance(
     n: u16,
     m: u16,
-    start: u16,
     firsts: &[u16],
     tails: &mut [u16],
     marks: &mut [u16],
     increments: &mut [u16],
     events: &mut [u16],
-    p: Place,
+    place: Place,
 ) -> Place
-    requires { ⌜ SomeArrayAt n m start (now firsts) (now tails) (now marks) (now increments) (now events) p × (p .e < at 0 (now firsts) (suc (p .v))) ⌝ }
-    ensures at { λ q. ⌜ ((before tails₀ marks₀ increments₀ events₀ : List ℕ) → ArrayAt (arrayIn n m (now (firsts .entry)) tails₀) before start marks₀ increments₀ events₀ (now (tails .entry)) (now (marks .entry)) (now (increments .entry)) (now (events .entry)) p → ArrayAt (arrayIn n m (now (firsts .entry)) tails₀) before start marks₀ increments₀ events₀ (now (tails .exit)) (now (marks .exit)) (now (increments .exit)) (now (events .exit)) q) ⌝ }
-    ensures words { λ q. ⌜ q .progress .events ≡ 2 + p .progress .events ⌝ }
+    requires { ⌜ SomeArrayAt n m (now firsts) (now tails) (now marks) (now increments) (now events) place × (place .p .0 < at 0 (now firsts) (suc (place .v .0))) ⌝ }
+    ensures at { λ q. ⌜ Onward n m (now (firsts .entry)) (now (tails .entry)) (now (marks .entry)) (now (increments .entry)) (now (events .entry)) place
+        (now (tails .exit)) (now (marks .exit)) (now (increments .exit)) (now (events .exit)) q ⌝ }
+    ensures words { λ q. ⌜ total (q .tally) ≡ 2 + total (place .tally) ⌝ }
 {
-    let t = p.progress;
-    let v = p.v;
-    let e = p.e;
-    let u = p.f;
-    let j = e as usize - 1;
+    let t = place.tally;
+    let v = place.v;
+    let p = place.p.0;
+    let f = place.f;
+    let here = v.0 as usize - 1;
+    let r = n + p;
+    let j = p as usize - 1;
     let x = tails[j];
     let i = x as usize - 1;
     if is_new(increments, marks, i) {
-        let a = emit(events, 2, n + e, v, t);
-        let k = v as usize - 1;
-        increments[k] = e - firsts[k] + 1;
-        tails[j] = u;
-        let b = label(marks, events, x, a);
+        let a = emit(events, 2, Edge(r), v, t);
+        increments[here] = p - firsts[here] + 1;
+        tails[j] = f.0;
+        let b = label(marks, events, Vertex(x), a);
         increments[i] = 1;
+        let first = firsts[i];
         Place {
-            v: x,
-            e: firsts[i],
+            v: Vertex(x),
+            p: Position(first),
             f: v,
-            progress: b,
+            tally: b,
         }
     } else {
-        let a = emit(events, 3, n + e, v, t);
-        let b = emit(events, 4, n + e, v, a);
+        let a = emit(events, 3, Edge(r), v, t);
+        let b = emit(events, 4, Edge(r), v, a);
+        let next = p + 1;
         Place {
             v: v,
-            e: e + 1,
-            f: u,
-            progress: b,
+            p: Position(next),
+            f: f,
+            tally: b,
         }
     }
 }
@@ -87,33 +101,35 @@ fn advance(
 fn retreat(
     n: u16,
     m: u16,
-    start: u16,
     firsts: &[u16],
     tails: &mut [u16],
     marks: &[u16],
     increments: &[u16],
     events: &mut [u16],
-    p: Place,
+    place: Place,
 ) -> Place
-    requires { ⌜ SomeArrayAt n m start (now firsts) (now tails) (now marks) (now increments) (now events) p × (p .e ≡ at 0 (now firsts) (suc (p .v))) × (p .f ≢ 0) ⌝ }
-    ensures at { λ q. ⌜ ((before tails₀ marks₀ increments₀ events₀ : List ℕ) → ArrayAt (arrayIn n m (now (firsts .entry)) tails₀) before start marks₀ increments₀ events₀ (now (tails .entry)) (now (marks .entry)) (now (increments .entry)) (now (events .entry)) p → ArrayAt (arrayIn n m (now (firsts .entry)) tails₀) before start marks₀ increments₀ events₀ (now (tails .exit)) (now (marks .entry)) (now (increments .entry)) (now (events .exit)) q) ⌝ }
-    ensures words { λ q. ⌜ q .progress .events ≡ 2 + p .progress .events ⌝ }
+    requires { ⌜ SomeArrayAt n m (now firsts) (now tails) (now marks) (now increments) (now events) place × (place .p .0 ≡ at 0 (now firsts) (suc (place .v .0))) × (place .f .0 ≢ 0) ⌝ }
+    ensures at { λ q. ⌜ Onward n m (now (firsts .entry)) (now (tails .entry)) (now (marks .entry)) (now (increments .entry)) (now (events .entry)) place
+        (now (tails .exit)) (now (marks .entry)) (now (increments .entry)) (now (events .exit)) q ⌝ }
+    ensures words { λ q. ⌜ total (q .tally) ≡ 2 + total (place .tally) ⌝ }
 {
-    let t = p.progress;
-    let v = p.v;
-    let u = p.f;
-    let a = emit(events, 6, 0, v, t);
-    let i = u as usize - 1;
-    let e = firsts[i] + increments[i] - 1;
-    let j = e as usize - 1;
+    let t = place.tally;
+    let v = place.v;
+    let u = place.f;
+    let a = emit(events, 6, Edge(0), v, t);
+    let i = u.0 as usize - 1;
+    let p = firsts[i] + increments[i] - 1;
+    let r = n + p;
+    let j = p as usize - 1;
     let f = tails[j];
-    tails[j] = v;
-    let b = emit(events, 5, n + e, u, a);
+    tails[j] = v.0;
+    let b = emit(events, 5, Edge(r), u, a);
+    let next = p + 1;
     Place {
         v: u,
-        e: e + 1,
-        f: f,
-        progress: b,
+        p: Position(next),
+        f: Vertex(f),
+        tally: b,
     }
 }
 
@@ -121,22 +137,22 @@ fn retreat(
 fn descend(
     n: u16,
     m: u16,
-    start: u16,
     firsts: &[u16],
     tails: &mut [u16],
     marks: &mut [u16],
     increments: &mut [u16],
     events: &mut [u16],
-    p: Place,
+    place: Place,
 ) -> Place
-    requires { ⌜ SomeArrayAt n m start (now firsts) (now tails) (now marks) (now increments) (now events) p ⌝ }
-    ensures at { λ q. ⌜ ((before tails₀ marks₀ increments₀ events₀ : List ℕ) → ArrayAt (arrayIn n m (now (firsts .entry)) tails₀) before start marks₀ increments₀ events₀ (now (tails .entry)) (now (marks .entry)) (now (increments .entry)) (now (events .entry)) p → ArrayAt (arrayIn n m (now (firsts .entry)) tails₀) before start marks₀ increments₀ events₀ (now (tails .exit)) (now (marks .exit)) (now (increments .exit)) (now (events .exit)) q) ⌝ }
-    ensures done { λ q. ⌜ q .e ≡ at 0 (now (firsts .entry)) (suc (q .v)) ⌝ }
-    ensures words { λ q. ⌜ p .progress .events ≤ q .progress .events ⌝ }
+    requires { ⌜ SomeArrayAt n m (now firsts) (now tails) (now marks) (now increments) (now events) place ⌝ }
+    ensures at { λ q. ⌜ Onward n m (now (firsts .entry)) (now (tails .entry)) (now (marks .entry)) (now (increments .entry)) (now (events .entry)) place
+        (now (tails .exit)) (now (marks .exit)) (now (increments .exit)) (now (events .exit)) q ⌝ }
+    ensures done { λ q. ⌜ q .p .0 ≡ at 0 (now (firsts .entry)) (suc (q .v .0)) ⌝ }
+    ensures words { λ q. ⌜ total (place .tally) ≤ total (q .tally) ⌝ }
 {
-    let mut q = p;
-    while q.e < firsts[q.v as usize] {
-        q = advance(n, m, start, firsts, tails, marks, increments, events, q);
+    let mut q = place;
+    while q.p.0 < firsts[q.v.0 as usize] {
+        q = advance(n, m, firsts, tails, marks, increments, events, q);
     }
     q
 }
@@ -145,25 +161,25 @@ fn descend(
 fn finish(
     n: u16,
     m: u16,
-    start: u16,
     firsts: &[u16],
     tails: &mut [u16],
     marks: &mut [u16],
     increments: &mut [u16],
     events: &mut [u16],
-    p: Place,
+    place: Place,
 ) -> Place
-    requires { ⌜ SomeArrayAt n m start (now firsts) (now tails) (now marks) (now increments) (now events) p ⌝ }
-    ensures at { λ q. ⌜ ((before tails₀ marks₀ increments₀ events₀ : List ℕ) → ArrayAt (arrayIn n m (now (firsts .entry)) tails₀) before start marks₀ increments₀ events₀ (now (tails .entry)) (now (marks .entry)) (now (increments .entry)) (now (events .entry)) p → ArrayAt (arrayIn n m (now (firsts .entry)) tails₀) before start marks₀ increments₀ events₀ (now (tails .exit)) (now (marks .exit)) (now (increments .exit)) (now (events .exit)) q) ⌝ }
-    ensures done { λ q. ⌜ (q .e ≡ at 0 (now (firsts .entry)) (suc (q .v))) × (q .f ≡ 0) ⌝ }
+    requires { ⌜ SomeArrayAt n m (now firsts) (now tails) (now marks) (now increments) (now events) place ⌝ }
+    ensures at { λ q. ⌜ Onward n m (now (firsts .entry)) (now (tails .entry)) (now (marks .entry)) (now (increments .entry)) (now (events .entry)) place
+        (now (tails .exit)) (now (marks .exit)) (now (increments .exit)) (now (events .exit)) q ⌝ }
+    ensures done { λ q. ⌜ (q .p .0 ≡ at 0 (now (firsts .entry)) (suc (q .v .0))) × (q .f .0 ≡ 0) ⌝ }
 {
-    let mut q = p;
+    let mut q = place;
     loop {
-        let d = descend(n, m, start, firsts, tails, marks, increments, events, q);
-        if d.f == 0 {
+        let d = descend(n, m, firsts, tails, marks, increments, events, q);
+        if d.f.0 == 0 {
             return d;
         }
-        q = retreat(n, m, start, firsts, tails, marks, increments, events, d);
+        q = retreat(n, m, firsts, tails, marks, increments, events, d);
     }
 }
 
@@ -171,7 +187,7 @@ fn finish(
 fn open(
     n: u16,
     m: u16,
-    start: u16,
+    start: Vertex,
     firsts: &[u16],
     tails: &[u16],
     before: &[u16],
@@ -179,18 +195,20 @@ fn open(
     increments: &mut [u16],
     events: &mut [u16],
 ) -> Place
-    requires { ⌜ CanSearch (arrayIn n m (now firsts) (now tails)) (now before) start (now marks) (now increments) (now events) ⌝ }
-    ensures { λ q. ⌜ ArrayAt (arrayIn n m (now (firsts .entry)) (now (tails .entry))) (now (before .entry)) start (now (marks .entry)) (now (increments .entry)) (now (events .entry)) (now (tails .entry)) (now (marks .exit)) (now (increments .exit)) (now (events .exit)) q ⌝ }
+    requires { ⌜ CanSearch (arrayIn n m (now firsts) (now tails)) (now before) (start .0) (now marks) (now increments) (now events) ⌝ }
+    ensures { λ q. ⌜ ArrayAt (arrayIn n m (now (firsts .entry)) (now (tails .entry))) (now (before .entry)) (start .0) (now (marks .entry)) (now (increments .entry)) (now (events .entry))
+        (now (tails .entry)) (now (marks .exit)) (now (increments .exit)) (now (events .exit)) q ⌝ }
 {
     clear(increments, n as usize);
     let t = begin(marks, events, n as usize + m as usize, before, start);
-    let first = start as usize - 1;
+    let first = start.0 as usize - 1;
     increments[first] = 1;
+    let p = firsts[first];
     Place {
         v: start,
-        e: firsts[first],
-        f: 0,
-        progress: t,
+        p: Position(p),
+        f: Vertex(0),
+        tally: t,
     }
 }
 
@@ -198,7 +216,7 @@ fn open(
 fn search(
     n: u16,
     m: u16,
-    start: u16,
+    start: Vertex,
     firsts: &[u16],
     tails: &mut [u16],
     before: &[u16],
@@ -206,8 +224,9 @@ fn search(
     increments: &mut [u16],
     events: &mut [u16],
 ) -> [u32; 7]
-    requires { ⌜ CanSearch (arrayIn n m (now firsts) (now tails)) (now before) start (now marks) (now increments) (now events) ⌝ }
-    ensures { λ t. ⌜ Ended (arrayIn n m (now (firsts .entry)) (now (tails .entry))) (now (before .entry)) start (now (marks .entry)) (now (increments .entry)) (now (events .entry)) (now (tails .exit)) (now (marks .exit)) (now (increments .exit)) (now (events .exit)) t ⌝ }
+    requires { ⌜ CanSearch (arrayIn n m (now firsts) (now tails)) (now before) (start .0) (now marks) (now increments) (now events) ⌝ }
+    ensures { λ t. ⌜ Ended (arrayIn n m (now (firsts .entry)) (now (tails .entry))) (now (before .entry)) (start .0) (now (marks .entry)) (now (increments .entry)) (now (events .entry))
+        (now (tails .exit)) (now (marks .exit)) (now (increments .exit)) (now (events .exit)) t ⌝ }
 {
     let p = open(
         n,
@@ -220,10 +239,9 @@ fn search(
         increments,
         events,
     );
-    let q = finish(n, m, start, firsts, tails, marks, increments, events, p);
-    let t = q.progress;
-    let whole = emit(events, 6, 0, start, t);
-    tally(whole)
+    let q = finish(n, m, firsts, tails, marks, increments, events, p);
+    let t = q.tally;
+    emit(events, 6, Edge(0), start, t)
 }
 
 // Depth-first search of an array form from start, with the elements already on the blank and n increments. Refused by 1, 2, 3 (all areas),
@@ -239,12 +257,11 @@ pub fn dfs_array(
     increments: &mut [u16],
     events: &mut [u16],
 ) -> Walked
-    ensures number { λ r. ⌜ r .number ≡ arrayWalkNumber (arrayIn n m (now (firsts .entry)) (now (tails .entry))) (now (before .entry)) (start .0) (now (marks .entry)) (now (increments .entry)) (now (events .entry)) ⌝ }
-    ensures tally { λ r. ⌜ r .tally ≡ tallied (r .number) (arrayWalk (arrayIn n m (now (firsts .entry)) (now (tails .entry))) (now (before .entry)) (start .0)) ⌝ }
+    ensures walk { λ r. ⌜ ArrayPromise (arrayIn n m (now (firsts .entry)) (now (tails .entry))) (now (before .entry)) (start .0) (now (increments .entry))
+        (now (marks .entry)) (now (events .entry)) r (now (marks .exit)) (now (events .exit)) ⌝ }
     ensures tails { λ r. ⌜ now (tails .exit) ≡ now (tails .entry) ⌝ }
-    ensures marks { λ r. ⌜ now (marks .exit) ≡ unlessRefused (r .number) (marksLeft (n + m) (now (before .entry)) (arrayWalk (arrayIn n m (now (firsts .entry)) (now (tails .entry))) (now (before .entry)) (start .0)) (now (marks .entry))) (now (marks .entry)) ⌝ }
-    ensures increments { λ r. ⌜ now (increments .exit) ≡ unlessRefused (r .number) (incrementLeft (arrayGraph (arrayIn n m (now (firsts .entry)) (now (tails .entry)))) (arrayWalk (arrayIn n m (now (firsts .entry)) (now (tails .entry))) (now (before .entry)) (start .0)) (now (increments .entry))) (now (increments .entry)) ⌝ }
-    ensures events { λ r. ⌜ now (events .exit) ≡ unlessRefused (r .number) (eventsLeft (arrayWalk (arrayIn n m (now (firsts .entry)) (now (tails .entry))) (now (before .entry)) (start .0)) (now (events .entry))) (now (events .entry)) ⌝ }
+    ensures increments { λ r. ⌜ now (increments .exit) ≡ unlessRefused (r .number) (incrementLeft (arrayGraph (arrayIn n m (now (firsts .entry)) (now (tails .entry))))
+        (arrayWalk (arrayIn n m (now (firsts .entry)) (now (tails .entry))) (now (before .entry)) (start .0)) (now (increments .entry))) (now (increments .entry)) ⌝ }
 {
     let k = array_walk_number(
         n,
@@ -263,7 +280,7 @@ pub fn dfs_array(
     let t = search(
         n,
         m,
-        start.0,
+        start,
         firsts,
         tails,
         before,

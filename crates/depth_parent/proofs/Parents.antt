@@ -1,6 +1,7 @@
 -- Laws of the search by parent edges: what each move makes of the tree edges so far, and so of the parent area.
 -- A tree advance enters a vertex that no tree edge has left yet; every other event leaves the tree edge into each vertex as it is.
 use mathlib.Core.Path.{_≡_, refl, sym, ap, _∙_, subst}
+use mathlib.Core.Logic.{_≢_}
 use mathlib.Core.Bool.{Bool, true, false, not, cond, _&&_}
 use mathlib.Core.List.{List, [], _∷_, _++_, reverseAux}
 use Prim.Native.Nat.{ℕ, _+_, _-_, _≤_, _<_, min}
@@ -19,22 +20,22 @@ use Rattle.graphs.specs.Events.{event, label, advance-tree, advance-nontree, re
 use Rattle.graphs.specs.Image.{Image, edgesOf, to, graphOf}
 use Rattle.graphs.specs.Results.{lastTree, entry, parentWord, parentLeft}
 use Rattle.graphs.specs.Claims.{Ready}
-use Rattle.graphs.specs.Refusals.{lent}
-use Rattle.graphs.proofs.Refusals.{long}
+use Rattle.graphs.specs.Refusals.{lent, unlessRefused}
+use Rattle.graphs.proofs.Refusals.{long, refused}
 use Rattle.graphs.proofs.Sound.{head0, Linked, linked-rest, Sound}
 use Rattle.graphs.proofs.Places.{Frame, frame, entering, path, Above, of-rest}
 use Rattle.graphs.proofs.Room.{profile-ready}
 use Rattle.graphs.proofs.Trees.{AllTrees, all-trees}
-use Rattle.walks.specs.declared.place.Place.{Place}
-use Rattle.walks.specs.Promises.{walkNumber}
-use Rattle.walks.specs.declared.depth.Progress.{Progress}
-use Rattle.walks.specs.Progress.{depthTally}
-use Rattle.depth_parent.specs.Parents.{Entered, ParentAt, SomeParentAt, CanSearch, Ended}
+use Rattle.walks.specs.declared.write.Walked.{Walked}
+use Rattle.walks.specs.Promises.{walkNumber, depthWalk, DepthPromise}
+use Rattle.walks.specs.Writing.{noEvents, total}
+use Rattle.depth_parent.specs.declared.Place.{Place}
+use Rattle.depth_parent.specs.Parents.{Entered, place, ParentAt, SomeParentAt, Goes, CanSearch, Ended}
 use Rattle.walks.specs.Moves.{Underway}
 use Rattle.walks.proofs.Reading.{target, target-is}
-use Rattle.walks.proofs.Begins.{begins}
+use Rattle.walks.proofs.Begins.{begins, refused-promised, taken-promised}
 use Rattle.walks.proofs.Storing.{all-cleared}
-use Rattle.walks.proofs.Progress.{Emits, Puts, Starts, written-test}
+use Rattle.walks.proofs.Writing.{Emits, Puts, Starts, held-test}
 use Rattle.walks.proofs.Moves as moves
 
 -- ---- the tree edge into a vertex
@@ -157,7 +158,7 @@ module _ {g : Image} {before : List ℕ} {start : ℕ} {marks₀ parents₀ even
       let e = moves.move-lengths (A .underway) in
       (e .0, (ap length (A .parents-left) ∙ length-filled (parentWord (graphOf g) (A .h)) (g .n) parents₀ (A .long), e .1))
 
-  pub place-bounds : Bounds g (p .v) marks parents
+  pub place-bounds : Bounds g (p .v .0) marks parents
   place-bounds =
       let S = A .sound in
       record {
@@ -170,193 +171,205 @@ module _ {g : Image} {before : List ℕ} {start : ℕ} {marks₀ parents₀ even
         long-parents = omega (arith, A .long, place-lengths .1 .0);
       }
 
+  -- The search underway, with the edges `rest` ahead and the frames s.
+  abbrev Way : List ℕ → List Frame → Type 0
+  Way rest s = Underway (graphOf g) (g .n + g .m) before start (A .h) (p .v .0) (A .done) rest s marks₀ events₀ marks events (p .tally)
+
   -- An edge is ahead.
-  module _ (more : p .e ≡ 0 → ⊥) where
-    N : Next (p .e) (A .rest)
-    N = next-edge (p .e) (A .rest) (A .next) more
+  module _ (more : p .e .0 ≡ 0 → ⊥) where
+    N : Next (p .e .0) (A .rest)
+    N = next-edge (p .e .0) (A .rest) (A .next) more
 
-    ahead : Underway (graphOf g) (g .n + g .m) before start (A .h) (p .v) (A .done) (p .e ∷ N .later) (A .s) marks₀ events₀ marks events (p .progress)
-    ahead = subst (λ (l : List ℕ). Underway (graphOf g) (g .n + g .m) before start (A .h) (p .v) (A .done) l (A .s) marks₀ events₀ marks events (p .progress)) (N .is) (A .underway)
+    ahead : Way (p .e .0 ∷ N .later) (A .s)
+    ahead = subst (λ (l : List ℕ). Way l (A .s)) (N .is) (A .underway)
 
-    is-target : to g (p .e) ≡ target g (p .e)
-    is-target = target-is g (p .e)
+    -- The vertex that it leads to.
+    abbrev x : ℕ
+    x = target g (p .e .0)
 
-    pub place-ahead : Ahead g (p .e)
+    is-target : to g (p .e .0) ≡ x
+    is-target = target-is g (p .e .0)
+
+    pub place-ahead : Ahead g (p .e .0)
     place-ahead =
         let P = ahead .scene .placed in
-        let e : Edge (g .n) (g .m) (p .e) = edge-of (A .sound) (p .v) (p .e) (A .done) (N .later) (P .vertex) (P .list) in
+        let e : Edge (g .n) (g .m) (p .e .0) = edge-of (A .sound) (p .v .0) (p .e .0) (A .done) (N .later) (P .vertex) (P .list) in
         record { edge = e; leads = subst (Vertex (g .n)) is-target (moves.target-vertex ahead) }
 
-    pub advance-few : 2 + p .progress .events ≤ 10000
+    pub advance-few : 2 + total (p .tally) ≤ 10000
     advance-few = moves.ahead-few ahead
 
     -- The mark of its target tells whether that is labelled.
-    mark-test : eqb (getD marks (target g (p .e) - 1) 0) 0 ≡ not (memb (target g (p .e)) (known before (A .h)))
-    mark-test = ap (λ (w : ℕ). eqb w 0) (sym (read-at marks (target g (p .e)))) ∙ written-test (A .underway .areas) (target g (p .e)) (place-ahead .leads .0) (let b = place-ahead .leads in omega arith)
+    mark-test : eqb (getD marks (x - 1) 0) 0 ≡ not (memb x (known before (A .h)))
+    mark-test = let b = place-ahead .leads in ap (λ (w : ℕ). eqb w 0) (sym (read-at marks x)) ∙ held-test (A .underway .held) x (b .0) (omega arith)
 
     -- It leads to a labelled vertex.
-    module _ {a : Progress} {ev : List ℕ} (one : Emits 3 (p .e) (p .v) events (p .progress) ev a) where
-      module _ {b : Progress} {ev′ : List ℕ} (two : Emits 4 (p .e) (p .v) ev a ev′ b) where
-        pub pass-total : b .events ≡ 2 + p .progress .events
+    module _ {a ev : List ℕ} (one : Emits 3 (p .e .0) (p .v .0) events (p .tally) ev a) where
+      module _ {b ev′ : List ℕ} (two : Emits 4 (p .e .0) (p .v .0) ev a ev′ b) where
+        pub pass-total : total b ≡ 2 + total (p .tally)
         pass-total = moves.pass-total ahead one two
 
-        pub pass-at : (getD marks (target g (p .e) - 1) 0 ≡ 0 → ⊥) → ParentAt g before start marks₀ parents₀ events₀ marks parents ev′ (record { v = p .v; e = getD (g .after) (p .e - 1) 0; f = p .f; progress = b })
+        pub pass-at : (getD marks (x - 1) 0 ≡ 0 → ⊥)
+            → ParentAt g before start marks₀ parents₀ events₀ marks parents ev′ (place (p .v .0) (getD (g .after) (p .e .0 - 1) 0) (p .f .0) b)
         pass-at ne =
             let P = ahead .scene .placed in
-            let i : History = A .h ▸ event advance-nontree (p .e) (p .v) ▸ event retreat-nontree (p .e) (p .v) in
-            let seen : memb (target g (p .e)) (known before (A .h)) ≡ true = not-false _ (sym mark-test ∙ ne-eqb (getD marks (target g (p .e) - 1) 0) 0 ne) in
+            let i : History = A .h ▸ event advance-nontree (p .e .0) (p .v .0) ▸ event retreat-nontree (p .e .0) (p .v .0) in
+            let seen : memb x (known before (A .h)) ≡ true = not-false _ (sym mark-test ∙ ne-eqb (getD marks (x - 1) 0) 0 ne) in
             record {
               sound = A .sound;
               long = A .long;
               h = i;
-              done = p .e ∷ A .done;
+              done = p .e .0 ∷ A .done;
               rest = N .later;
               s = A .s;
-              underway = moves.pass-goes ahead one two (ap (λ (x : ℕ). memb x (known before (A .h))) is-target ∙ seen);
-              entered = entered-same (graphOf g) (A .h) i (A .s) (p .v) (λ y m. refl) (A .entered);
+              underway = moves.pass-goes ahead one two (ap (λ (y : ℕ). memb y (known before (A .h))) is-target ∙ seen);
+              entered = entered-same (graphOf g) (A .h) i (A .s) (p .v .0) (λ y m. refl) (A .entered);
               parents-left = A .parents-left;
-              next = next-word (A .sound) (p .v) (p .e) (A .done) (N .later) (P .vertex) (P .list);
+              next = next-word (A .sound) (p .v .0) (p .e .0) (A .done) (N .later) (P .vertex) (P .list);
               trailer = A .trailer;
             }
 
     -- It leads to a vertex that is not labelled.
-    module _ {a : Progress} {ev : List ℕ} (one : Emits 2 (p .e) (p .v) events (p .progress) ev a) where
-      module _ {b : Progress} {mk ev′ : List ℕ} (two : Puts (target g (p .e)) marks ev a mk ev′ b) where
-        pub tree-total : getD marks (target g (p .e) - 1) 0 ≡ 0 → b .events ≡ 2 + p .progress .events
-        tree-total z = moves.tree-total ahead one (target g (p .e)) is-target two (not-true _ (sym mark-test ∙ eq-eqb (getD marks (target g (p .e) - 1) 0) 0 z))
+    module _ {a ev : List ℕ} (one : Emits 2 (p .e .0) (p .v .0) events (p .tally) ev a) where
+      module _ {b mk ev′ : List ℕ} (two : Puts x marks ev a mk ev′ b) where
+        pub tree-total : getD marks (x - 1) 0 ≡ 0 → total b ≡ 2 + total (p .tally)
+        tree-total z = moves.tree-total ahead one x is-target two (not-true _ (sym mark-test ∙ eq-eqb (getD marks (x - 1) 0) 0 z))
 
-        pub tree-at : getD marks (target g (p .e) - 1) 0 ≡ 0 → ParentAt g before start marks₀ parents₀ events₀ mk (set parents (target g (p .e) - 1) (p .f)) ev′ (record { v = target g (p .e); e = getD (g .after) (target g (p .e) - 1) 0; f = p .e; progress = b })
+        pub tree-at : getD marks (x - 1) 0 ≡ 0
+            → ParentAt g before start marks₀ parents₀ events₀ mk (set parents (x - 1) (p .f .0)) ev′ (place x (getD (g .after) (x - 1) 0) (p .e .0) b)
         unfolding put
         tree-at z =
             let G : Graph = graphOf g in
-            let x : ℕ = target g (p .e) in
             let h : History = A .h in
-            let i : History = h ▸ event advance-tree (p .e) (p .v) ▸ event label 0 x in
+            let i : History = h ▸ event advance-tree (p .e .0) (p .v .0) ▸ event label 0 x in
             let hx : Vertex (g .n) x = place-ahead .leads in
             let unseen : memb x (known before h) ≡ false = not-true _ (sym mark-test ∙ eq-eqb (getD marks (x - 1) 0) 0 z) in
             let new : Mem x (labelled h) → ⊥ = λ m. memb-false x (known before h) unseen (mem-left before m) in
-            let from : Mem (p .v) (labelled h) = A .underway .scene .seen (p .v) (here refl) in
+            let same : (y : ℕ) → Mem y (p .v .0 ∷ path (A .s)) → entry G i y ≡ entry G h y =
+            λ y m. entry-old G h (p .e .0) (p .v .0) x is-target new y (λ e. new (subst (λ (w : ℕ). Mem w (labelled h)) (sym e) (A .underway .scene .seen y m))) in
+            let from : Mem (p .v .0) (labelled h) = A .underway .scene .seen (p .v .0) (here refl) in
             record {
               sound = A .sound;
               long = A .long;
               h = i;
               done = [];
               rest = edgesOf g x;
-              s = frame (p .v) (A .done) (p .e) (N .later) ∷ A .s;
+              s = frame (p .v .0) (A .done) (p .e .0) (N .later) ∷ A .s;
               underway = moves.tree-goes ahead one x is-target two unseen;
-              entered = (entry-new G h (p .e) (p .v) x is-target new, entered-same G h i (A .s) (p .v) (λ y m. entry-old G h (p .e) (p .v) x is-target new y (λ e. new (subst (λ (w : ℕ). Mem w (labelled h)) (sym e) (A .underway .scene .seen y m)))) (A .entered));
+              entered = (entry-new G h (p .e .0) (p .v .0) x is-target new, entered-same G h i (A .s) (p .v .0) same (A .entered));
               parents-left =
-                  (λ j. put 0 (A .parents-left j) x ((A .trailer ∙ sym (entered-edge G h (A .s) (p .v) (A .entered))) j))
-                  ∙ parents-tree G h (p .e) (p .v) x is-target new (hx .0) from (A .underway .trees) parents₀ (hx .1);
+                  (λ j. put 0 (A .parents-left j) x ((A .trailer ∙ sym (entered-edge G h (A .s) (p .v .0) (A .entered))) j))
+                  ∙ parents-tree G h (p .e .0) (p .v .0) x is-target new (hx .0) from (A .underway .trees) parents₀ (hx .1);
               next = first-word (A .sound) x hx;
               trailer = refl;
             }
 
   -- No edge is ahead.
-  module _ (none : p .e ≡ 0) where
-    done-at : Underway (graphOf g) (g .n + g .m) before start (A .h) (p .v) (A .done) [] (A .s) marks₀ events₀ marks events (p .progress)
+  module _ (none : p .e .0 ≡ 0) where
+    done-at : Way [] (A .s)
     done-at = go (A .rest) (A .next) (A .underway)
       where
-        go : (rest : List ℕ) → p .e ≡ head0 rest → Underway (graphOf g) (g .n + g .m) before start (A .h) (p .v) (A .done) rest (A .s) marks₀ events₀ marks events (p .progress) → Underway (graphOf g) (g .n + g .m) before start (A .h) (p .v) (A .done) [] (A .s) marks₀ events₀ marks events (p .progress)
+        go : (rest : List ℕ) → p .e .0 ≡ head0 rest → Way rest (A .s) → Way [] (A .s)
         go [] q U = U
-        go (y ∷ l) q U = absurd (let e = edge-of (A .sound) (p .v) y (A .done) l (U .scene .placed .vertex) (U .scene .placed .list) in let k : p .e ≡ y = q in omega arith)
+        go (y ∷ l) q U = absurd (let e = edge-of (A .sound) (p .v .0) y (A .done) l (U .scene .placed .vertex) (U .scene .placed .list) in let k : p .e .0 ≡ y = q in omega arith)
 
     -- The trailer is a tree edge.
-    module _ (some : p .f ≡ 0 → ⊥) where
-      pub top : Framed (p .f) (A .s)
-      top = framed (p .f) (A .s) (A .trailer) some
+    module _ (some : p .f .0 ≡ 0 → ⊥) where
+      pub top : Framed (p .f .0) (A .s)
+      top = framed (p .f .0) (A .s) (A .trailer) some
 
       -- The vertex that it leaves.
       abbrev pub back : ℕ
       back = top .vertex
 
-      behind : Underway (graphOf g) (g .n + g .m) before start (A .h) (p .v) (A .done) [] (frame back (top .passed) (p .f) (top .ahead) ∷ top .below) marks₀ events₀ marks events (p .progress)
-      behind = subst (λ (s : List Frame). Underway (graphOf g) (g .n + g .m) before start (A .h) (p .v) (A .done) [] s marks₀ events₀ marks events (p .progress)) (top .is) done-at
+      behind : Way [] (frame back (top .passed) (p .f .0) (top .ahead) ∷ top .below)
+      behind = subst (λ (s : List Frame). Way [] s) (top .is) done-at
 
-      entered-back : Entered (graphOf g) (A .h) (frame back (top .passed) (p .f) (top .ahead) ∷ top .below) (p .v)
-      entered-back = subst (λ (s : List Frame). Entered (graphOf g) (A .h) s (p .v)) (top .is) (A .entered)
+      entered-back : Entered (graphOf g) (A .h) (frame back (top .passed) (p .f .0) (top .ahead) ∷ top .below) (p .v .0)
+      entered-back = subst (λ (s : List Frame). Entered (graphOf g) (A .h) s (p .v .0)) (top .is) (A .entered)
 
-      pub retreat-few : 2 + p .progress .events ≤ 10000
+      pub retreat-few : 2 + total (p .tally) ≤ 10000
       retreat-few = moves.back-few behind
 
-      pub retreat-edge : Edge (g .n) (g .m) (p .f)
-      retreat-edge = let a = behind .scene .placed .above in edge-of (A .sound) back (p .f) (top .passed) (top .ahead) (a .1) (a .2)
+      pub retreat-edge : Edge (g .n) (g .m) (p .f .0)
+      retreat-edge = let a = behind .scene .placed .above in edge-of (A .sound) back (p .f .0) (top .passed) (top .ahead) (a .1) (a .2)
 
       -- The parent word of v is the trailer of the vertex that the search goes back to.
-      word-back : getD parents (p .v - 1) 0 ≡ entering (top .below)
+      word-back : getD parents (p .v .0 - 1) 0 ≡ entering (top .below)
       word-back =
-          sym (read-at parents (p .v))
-          ∙ ap (λ (l : List ℕ). at 0 l (p .v)) (A .parents-left)
-          ∙ at-filled (parentWord (graphOf g) (A .h)) (g .n) parents₀ (p .v) (behind .scene .placed .vertex .0) (behind .scene .placed .vertex .1)
-          ∙ entered-word (graphOf g) (A .h) back (p .f) (p .v) (top .passed) (top .ahead) (top .below) entered-back
+          sym (read-at parents (p .v .0))
+          ∙ ap (λ (l : List ℕ). at 0 l (p .v .0)) (A .parents-left)
+          ∙ at-filled (parentWord (graphOf g) (A .h)) (g .n) parents₀ (p .v .0) (behind .scene .placed .vertex .0) (behind .scene .placed .vertex .1)
+          ∙ entered-word (graphOf g) (A .h) back (p .f .0) (p .v .0) (top .passed) (top .ahead) (top .below) entered-back
 
       -- Null: that vertex is the start. Else it is where that edge leads to.
-      pub back-start : getD parents (p .v - 1) 0 ≡ 0 → start ≡ back
+      pub back-start : getD parents (p .v .0 - 1) 0 ≡ 0 → start ≡ back
       back-start z = go (top .below) (sym word-back ∙ z) (behind .scene .placed .above .3)
         where
           go : (s : List Frame) → entering s ≡ 0 → Above (graphOf g) start s back → start ≡ back
           go [] e a = sym a
           go (frame u du r ru ∷ s) e a = absurd (let k = edge-of (A .sound) u r du ru (a .1) (a .2) in let q : r ≡ 0 = e in omega arith)
 
-      module _ (ne : getD parents (p .v - 1) 0 ≡ 0 → ⊥) where
-        pub back-edge : Edge (g .n) (g .m) (getD parents (p .v - 1) 0)
+      module _ (ne : getD parents (p .v .0 - 1) 0 ≡ 0 → ⊥) where
+        pub back-edge : Edge (g .n) (g .m) (getD parents (p .v .0 - 1) 0)
         back-edge = subst (Edge (g .n) (g .m)) (sym word-back) (trailer-edge (A .sound) start (top .below) back (behind .scene .placed .above .3) (λ e. ne (word-back ∙ e)))
 
-        pub back-target : target g (getD parents (p .v - 1) 0) ≡ back
-        back-target = sym (target-is g (getD parents (p .v - 1) 0)) ∙ ap (to g) word-back ∙ go (top .below) (λ e. ne (word-back ∙ e)) (behind .scene .placed .above .3)
+        pub back-target : target g (getD parents (p .v .0 - 1) 0) ≡ back
+        back-target = sym (target-is g (getD parents (p .v .0 - 1) 0)) ∙ ap (to g) word-back ∙ go (top .below) (λ e. ne (word-back ∙ e)) (behind .scene .placed .above .3)
           where
             go : (s : List Frame) → (entering s ≡ 0 → ⊥) → Above (graphOf g) start s back → to g (entering s) ≡ back
             go [] n a = absurd (n refl)
             go (frame u du r ru ∷ s) n a = a .0
 
-      module _ {a : Progress} {ev : List ℕ} (one : Emits 6 0 (p .v) events (p .progress) ev a) where
-        module _ (u : ℕ) {b : Progress} {ev′ : List ℕ} (two : Emits 5 (p .f) u ev a ev′ b) (is : u ≡ back) where
-          two-back : Emits 5 (p .f) back ev a ev′ b
-          two-back = subst (λ (y : ℕ). Emits 5 (p .f) y ev a ev′ b) is two
+      module _ {a ev : List ℕ} (one : Emits 6 0 (p .v .0) events (p .tally) ev a) where
+        module _ (u : ℕ) {b ev′ : List ℕ} (two : Emits 5 (p .f .0) u ev a ev′ b) (is : u ≡ back) where
+          two-back : Emits 5 (p .f .0) back ev a ev′ b
+          two-back = subst (λ (y : ℕ). Emits 5 (p .f .0) y ev a ev′ b) is two
 
-          pub retreat-total : b .events ≡ 2 + p .progress .events
+          pub retreat-total : total b ≡ 2 + total (p .tally)
           retreat-total = moves.back-total behind one two-back
 
-          pub retreat-at : ParentAt g before start marks₀ parents₀ events₀ marks parents ev′ (record { v = u; e = getD (g .after) (p .f - 1) 0; f = getD parents (p .v - 1) 0; progress = b })
+          pub retreat-at : ParentAt g before start marks₀ parents₀ events₀ marks parents ev′ (place u (getD (g .after) (p .f .0 - 1) 0) (getD parents (p .v .0 - 1) 0) b)
           retreat-at =
               let G : Graph = graphOf g in
               let h : History = A .h in
-              let i : History = h ▸ event scan 0 (p .v) ▸ event retreat-tree (p .f) back in
+              let i : History = h ▸ event scan 0 (p .v .0) ▸ event retreat-tree (p .f .0) back in
               let P = behind .scene .placed in
               record {
                 sound = A .sound;
                 long = A .long;
                 h = i;
-                done = p .f ∷ top .passed;
+                done = p .f .0 ∷ top .passed;
                 rest = top .ahead;
                 s = top .below;
-                underway = subst (λ (y : ℕ). Underway G (g .n + g .m) before start i y (p .f ∷ top .passed) (top .ahead) (top .below) marks₀ events₀ marks ev′ b) (sym is) (moves.back-goes behind one two-back);
+                underway = subst (λ (y : ℕ). Underway G (g .n + g .m) before start i y (p .f .0 ∷ top .passed) (top .ahead) (top .below) marks₀ events₀ marks ev′ b)
+                    (sym is) (moves.back-goes behind one two-back);
                 entered = entered-same G h i (top .below) u (λ y m. refl) (subst (λ (y : ℕ). Entered G h (top .below) y) (sym is) (entered-back .1));
                 parents-left = A .parents-left;
-                next = next-word (A .sound) back (p .f) (top .passed) (top .ahead) (P .above .1) (P .above .2);
+                next = next-word (A .sound) back (p .f .0) (top .passed) (top .ahead) (P .above .1) (P .above .2);
                 trailer = word-back;
               }
 
     -- There is no trailer: the start is being scanned.
-    module _ (nil : p .f ≡ 0) where
-      bottom : Underway (graphOf g) (g .n + g .m) before start (A .h) (p .v) (A .done) [] [] marks₀ events₀ marks events (p .progress)
+    module _ (nil : p .f .0 ≡ 0) where
+      bottom : Way [] []
       bottom = go (A .s) (A .trailer) done-at
         where
-          go : (s : List Frame) → p .f ≡ entering s → Underway (graphOf g) (g .n + g .m) before start (A .h) (p .v) (A .done) [] s marks₀ events₀ marks events (p .progress) → Underway (graphOf g) (g .n + g .m) before start (A .h) (p .v) (A .done) [] [] marks₀ events₀ marks events (p .progress)
+          go : (s : List Frame) → p .f .0 ≡ entering s → Way [] s → Way [] []
           go [] q U = U
-          go (frame u du r ru ∷ s) q U = absurd (let a = U .scene .placed .above in let e = edge-of (A .sound) u r du ru (a .1) (a .2) in let k : p .f ≡ r = q in omega arith)
+          go (frame u du r ru ∷ s) q U = absurd (let a = U .scene .placed .above in let e = edge-of (A .sound) u r du ru (a .1) (a .2) in let k : p .f .0 ≡ r = q in omega arith)
 
       -- The scan of the start is the last event.
-      pub search-ends : {o : Progress} {t ev : List ℕ} → Emits 6 0 start events (p .progress) ev o → t ≡ depthTally o → Ended g before start marks₀ parents₀ events₀ marks parents ev t
-      search-ends w c = record { held = moves.end-held bottom w c; parents-left = A .parents-left ∙ ap (λ (i : History). parentLeft (graphOf g) i parents₀) (moves.end-is bottom) }
+      pub search-ends : {t ev : List ℕ} → Emits 6 0 start events (p .tally) ev t → Ended g before start marks₀ parents₀ events₀ marks parents ev t
+      search-ends w = record { held = moves.end-held bottom w; parents-left = A .parents-left ∙ ap (λ (i : History). parentLeft (graphOf g) i parents₀) (moves.end-is bottom) }
 
 -- ---- the beginning
 module _ {g : Image} {before : List ℕ} {start : ℕ} {marks₀ parents₀ events₀ : List ℕ} (C : CanSearch g before start marks₀ parents₀ events₀) where
   ready : Ready (graphOf g) before start
   ready = profile-ready g (C .sound) before start (C .start-vertex) (C .listed)
 
-  pub open-at : {marks parents events : List ℕ} {t : Progress} → parents ≡ cleared (min (g .n) (length parents₀)) parents₀ → Starts (g .n + g .m) before start marks₀ events₀ marks events t
-      → ParentAt g before start marks₀ parents₀ events₀ marks parents events (record { v = start; e = getD (g .after) (start - 1) 0; f = 0; progress = t })
+  pub open-at : {marks parents events t : List ℕ} → parents ≡ cleared (min (g .n) (length parents₀)) parents₀ → Starts (g .n + g .m) before start marks₀ events₀ marks events t
+      → ParentAt g before start marks₀ parents₀ events₀ marks parents events (place start (getD (g .after) (start - 1) 0) 0 t)
   open-at c w = record {
     sound = C .sound;
     long = C .long;
@@ -372,10 +385,6 @@ module _ {g : Image} {before : List ℕ} {start : ℕ} {marks₀ parents₀ even
   }
 
 -- ---- from place to place
--- From one place the search goes to another, whatever the areas were as lent.
-abbrev pub Goes : (g : Image) (start : ℕ) (marks parents events : List ℕ) (p : Place) (marks′ parents′ events′ : List ℕ) (p′ : Place) → Type 0
-Goes g start marks parents events p marks′ parents′ events′ p′ = (before marks₀ parents₀ events₀ : List ℕ) → ParentAt g before start marks₀ parents₀ events₀ marks parents events p → ParentAt g before start marks₀ parents₀ events₀ marks′ parents′ events′ p′
-
 module _ {g : Image} {start : ℕ} {marks parents events marks′ parents′ events′ : List ℕ} {p p′ : Place} (S : SomeParentAt g start marks parents events p) (k : Goes g start marks parents events p marks′ parents′ events′ p′) where
   pub goes-some : SomeParentAt g start marks′ parents′ events′ p′
   goes-some = record { before = S .before; marks₀ = S .marks₀; parents₀ = S .parents₀; events₀ = S .events₀; is = k (S .before) (S .marks₀) (S .parents₀) (S .events₀) (S .is) }
@@ -394,8 +403,23 @@ pub goes-then : {g : Image} {start : ℕ} {marks parents events marks′ parents
     → Goes g start marks parents events p marks″ parents″ events″ p″
 goes-then k l before marks₀ parents₀ events₀ A = l before marks₀ parents₀ events₀ (k before marks₀ parents₀ events₀ A)
 
--- ---- a walk taken
-pub can-search : (g : Image) (before : List ℕ) (start : ℕ) (marks parents events : List ℕ) → walkNumber g before start marks events (lent (g .n) parents ∷ []) ≡ 0 → CanSearch g before start marks parents events
-can-search g before start marks parents events e =
-    let B = begins g before start marks events (lent (g .n) parents ∷ []) e in
-    record { sound = B .sound; start-vertex = B .start-vertex; listed = B .listed; roomy = B .depth-room; long = long (g .n) parents [] (B .own-long) .0 }
+-- ---- the walk
+module _ (g : Image) (before : List ℕ) (start : ℕ) (marks parents events : List ℕ) {k : ℕ} (is : k ≡ walkNumber g before start marks events (lent (g .n) parents ∷ [])) where
+  -- What the walk leaves in the parent area.
+  abbrev Left : Walked → List ℕ → Type 0
+  Left r parents′ = parents′ ≡ unlessRefused (r .number) (parentLeft (graphOf g) (depthWalk g before start) parents) parents
+
+  -- A walk refused leaves all as it was.
+  pub walk-refused : {r : Walked} → (r .number ≡ k) × (r .tally ≡ noEvents) → k ≢ 0 → DepthPromise g before start (lent (g .n) parents ∷ []) marks events r marks events × Left r parents
+  walk-refused {r} f ne = (refused-promised is ne f, refused (r .number) (parentLeft (graphOf g) (depthWalk g before start) parents) parents (λ e. ne (sym (f .0) ∙ e)))
+
+  -- A walk taken can begin.
+  pub walk-begins : k ≡ 0 → CanSearch g before start marks parents events
+  walk-begins z =
+      let B = begins g before start marks events (lent (g .n) parents ∷ []) (sym is ∙ z) in
+      record { sound = B .sound; start-vertex = B .start-vertex; listed = B .listed; roomy = B .depth-room; long = long (g .n) parents [] (B .own-long) .0 }
+
+  -- And leaves what the search leaves.
+  pub walk-ends : {marks′ parents′ events′ t : List ℕ} → k ≡ 0 → Ended g before start marks parents events marks′ parents′ events′ t
+      → (let r : Walked = record { number = 0; tally = t } in DepthPromise g before start (lent (g .n) parents ∷ []) marks events r marks′ events′ × Left r parents′)
+  walk-ends z E = (taken-promised (sym is ∙ z) refl (E .held), E .parents-left)

@@ -6,23 +6,15 @@
 use images::Edge;
 use images::Vertex;
 use walks::Walked;
-use walks::depth::Progress;
-use walks::depth::emit;
-use walks::depth::label;
-use walks::depth::tally;
+use walks::emit;
+use walks::label;
 use walks::mark_blanks;
 use walks::refused;
 use walks::walk_number;
-ghost use mathlib.Core.Path.{_≡_};
-ghost use mathlib.Core.List.{List, []};
-ghost use Prim.Native.Nat.{ℕ, _+_};
-ghost use Rattle.graphs.specs.Events.{History};
-ghost use Rattle.graphs.specs.Results.{marksLeft, eventsLeft};
-ghost use Rattle.graphs.specs.Refusals.{unlessRefused};
+ghost use mathlib.Core.List.{[]};
 ghost use Rattle.images.specs.Checking.{image};
-ghost use Rattle.walks.specs.Promises.{walkNumber, depthWalk, tallied};
-ghost use Rattle.walks.specs.Progress.{Written};
-ghost use Rattle.depth_recursive.specs.Recursive.{CanSearch, Searching, searched, CanTraverse, Traversing, crossed};
+ghost use Rattle.walks.specs.Promises.{DepthPromise};
+ghost use Rattle.depth_recursive.specs.Recursive.{CanSearch, Searches, CanTraverse, Traverses};
 
 // Labels u, traverses each edge on its list, and ends the scan of u.
 fn search_vertex(
@@ -33,14 +25,14 @@ fn search_vertex(
     tail: &[u16],
     marks: &mut [u16],
     events: &mut [u16],
-    progress: Progress,
-) -> Progress
-    requires { ⌜ CanSearch (image n m (now after) (now tail)) (u .0) (now marks) (now events) progress ⌝ }
-    ensures { λ t. ⌜ ((before : List ℕ) (h : History) (marks₀ events₀ : List ℕ) → Searching (image n m (now (after .entry)) (now (tail .entry))) before (u .0) h marks₀ events₀ (now (marks .entry)) (now (events .entry)) progress → Written (n + m) before (searched (image n m (now (after .entry)) (now (tail .entry))) before (u .0) h) marks₀ events₀ (now (marks .exit)) (now (events .exit)) t) ⌝ }
+    tally: [u32; 7],
+) -> [u32; 7]
+    requires { ⌜ CanSearch (image n m (now after) (now tail)) (u .0) (now marks) (now events) tally ⌝ }
+    ensures { λ t. ⌜ Searches (image n m (now (after .entry)) (now (tail .entry))) (u .0) (now (marks .entry)) (now (events .entry)) tally
+        (now (marks .exit)) (now (events .exit)) t ⌝ }
 {
-    let v = u.0;
-    let mut t = label(marks, events, v, progress);
-    let i = v as usize - 1;
+    let mut t = label(marks, events, u, tally);
+    let i = u.0 as usize - 1;
     let mut r = after[i];
     while r != 0 {
         let s = traverse_edge(n, m, Edge(r), u, after, tail, marks, events, t);
@@ -48,7 +40,7 @@ fn search_vertex(
         let j = r as usize - 1;
         r = after[j];
     }
-    emit(events, 6, 0, v, t)
+    emit(events, 6, Edge(0), u, t)
 }
 
 // Traverses r, which leaves u: searches the vertex that it leads to where that is not labelled.
@@ -61,23 +53,22 @@ fn traverse_edge(
     tail: &[u16],
     marks: &mut [u16],
     events: &mut [u16],
-    progress: Progress,
-) -> Progress
-    requires { ⌜ CanTraverse (image n m (now after) (now tail)) (r .0) (u .0) (now marks) (now events) progress ⌝ }
-    ensures { λ t. ⌜ ((before : List ℕ) (h : History) (marks₀ events₀ : List ℕ) → Traversing (image n m (now (after .entry)) (now (tail .entry))) before (r .0) (u .0) h marks₀ events₀ (now (marks .entry)) (now (events .entry)) progress → Written (n + m) before (crossed (image n m (now (after .entry)) (now (tail .entry))) before (r .0) (u .0) h) marks₀ events₀ (now (marks .exit)) (now (events .exit)) t) ⌝ }
+    tally: [u32; 7],
+) -> [u32; 7]
+    requires { ⌜ CanTraverse (image n m (now after) (now tail)) (r .0) (u .0) (now marks) (now events) tally ⌝ }
+    ensures { λ t. ⌜ Traverses (image n m (now (after .entry)) (now (tail .entry))) (r .0) (u .0) (now (marks .entry)) (now (events .entry)) tally
+        (now (marks .exit)) (now (events .exit)) t ⌝ }
 {
-    let e = r.0;
-    let from = u.0;
-    let j = e as usize - n as usize - 1;
+    let j = r.0 as usize - n as usize - 1;
     let x = tail[j];
     let i = x as usize - 1;
     if marks[i] == 0 {
-        let a = emit(events, 2, e, from, progress);
+        let a = emit(events, 2, r, u, tally);
         let b = search_vertex(n, m, Vertex(x), after, tail, marks, events, a);
-        emit(events, 5, e, from, b)
+        emit(events, 5, r, u, b)
     } else {
-        let a = emit(events, 3, e, from, progress);
-        emit(events, 4, e, from, a)
+        let a = emit(events, 3, r, u, tally);
+        emit(events, 4, r, u, a)
     }
 }
 
@@ -93,22 +84,15 @@ pub fn dfs_recursive(
     marks: &mut [u16],
     events: &mut [u16],
 ) -> Walked
-    ensures number { λ r. ⌜ r .number ≡ walkNumber (image n m (now (after .entry)) (now (tail .entry))) (now (before .entry)) (start .0) (now (marks .entry)) (now (events .entry)) [] ⌝ }
-    ensures tally { λ r. ⌜ r .tally ≡ tallied (r .number) (depthWalk (image n m (now (after .entry)) (now (tail .entry))) (now (before .entry)) (start .0)) ⌝ }
-    ensures marks { λ r. ⌜ now (marks .exit) ≡ unlessRefused (r .number) (marksLeft (n + m) (now (before .entry)) (depthWalk (image n m (now (after .entry)) (now (tail .entry))) (now (before .entry)) (start .0)) (now (marks .entry))) (now (marks .entry)) ⌝ }
-    ensures events { λ r. ⌜ now (events .exit) ≡ unlessRefused (r .number) (eventsLeft (depthWalk (image n m (now (after .entry)) (now (tail .entry))) (now (before .entry)) (start .0)) (now (events .entry))) (now (events .entry)) ⌝ }
+    ensures { λ r. ⌜ DepthPromise (image n m (now (after .entry)) (now (tail .entry))) (now (before .entry)) (start .0) []
+        (now (marks .entry)) (now (events .entry)) r (now (marks .exit)) (now (events .exit)) ⌝ }
 {
     let k = walk_number(n, m, start, after, tail, before, marks, events, true);
     if k != 0 {
         return refused(k);
     }
     mark_blanks(marks, n as usize + m as usize, before);
-    let none = Progress {
-        events: 0,
-        labels: 0,
-    };
-    let p = search_vertex(n, m, start, after, tail, marks, events, none);
-    let t = tally(p);
+    let t = search_vertex(n, m, start, after, tail, marks, events, [0; 7]);
     Walked {
         number: 0,
         tally: t,

@@ -13,9 +13,9 @@ ghost use mathlib.Core.List.{List};
 ghost use Prim.Native.Nat.{ℕ, _+_, _*_, _≤_};
 ghost use lib.Dec.{leb};
 ghost use lib.ListN.{length};
-ghost use Rattle.folding.specs.Calls.{runFor, single, serve, perform};
+ghost use Rattle.folding.specs.Calls.{runFor, single, perform};
 ghost use Rattle.folding.proofs.Fields.{Fields};
-ghost use Rattle.states.specs.Answers.{configOf, seenOf, told, toldRan};
+ghost use Rattle.states.specs.Answers.{configOf, seenOf, told, CallPromise, toldRan};
 ghost use Rattle.folded.specs.Steps.{Ready};
 
 // Whether a after words, t tail words and k marks are as many as stated, and so are the event words.
@@ -88,7 +88,7 @@ pub fn step(
     marks: &mut [u16],
     events: &mut [u16],
 ) -> Reply
-    ensures { λ r. ⌜ told r (now (after .exit)) (now (tail .exit)) (now (marks .exit)) (now (events .exit)) ≡ seenOf (serve (configOf s (now (after .entry)) (now (tail .entry)) (now (marks .entry))) (single (now (events .entry)))) ⌝ }
+    ensures { λ r. ⌜ CallPromise (configOf s (now (after .entry)) (now (tail .entry)) (now (marks .entry))) (single (now (events .entry))) (told r (now (after .exit)) (now (tail .exit)) (now (marks .exit)) (now (events .exit))) ⌝ }
 {
     let long = 6 <= events.len();
     let all = are_long(s, after.len(), tail.len(), marks.len(), long);
@@ -121,7 +121,7 @@ pub fn run(
     marks: &mut [u16],
     events: &mut [u16],
 ) -> Reply
-    ensures { λ r. ⌜ told r (now (after .exit)) (now (tail .exit)) (now (marks .exit)) (now (events .exit)) ≡ seenOf (serve (configOf s (now (after .entry)) (now (tail .entry)) (now (marks .entry))) (runFor budget (now (events .entry)))) ⌝ }
+    ensures { λ r. ⌜ CallPromise (configOf s (now (after .entry)) (now (tail .entry)) (now (marks .entry))) (runFor budget (now (events .entry))) (told r (now (after .exit)) (now (tail .exit)) (now (marks .exit)) (now (events .exit))) ⌝ }
 {
     let long = 6 * (budget as usize) <= events.len();
     let all = are_long(s, after.len(), tail.len(), marks.len(), long);

@@ -138,13 +138,21 @@ fn count(d: &mut Desk, p: Panel) -> Panel {
     left
 }
 
+// The figure of the next shift, once the last card of one is answered: where that was refused, the shift goes on.
+fn next_figure(d: &Desk) -> u32 {
+    if said(d, ANSWER) == 0 {
+        return 0;
+    }
+    figure_of(d)
+}
+
 // Accepts it as the last card of a shift.
 fn end(d: &mut Desk, p: Panel) -> Panel {
     let r = panel::end_shift(p.figure, state_of(d));
     let a = r.answer;
     note_accepted(d, a);
     note(d, r.figure != figure_of(d));
-    note(d, r.fresh != 0);
+    note(d, r.fresh != next_figure(d));
     Panel { figure: r.fresh }
 }
 
@@ -207,10 +215,13 @@ const CARD: u16 = 1;
 const SHIFT: u16 = 2;
 
 fn happened(d: &Desk, way: u16) -> u16 {
-    if way < 2 {
+    if way == 0 {
         return SHIFT;
     }
-    if said(d, ANSWER) == 0 { CARD } else { 0 }
+    if said(d, ANSWER) != 0 {
+        return 0;
+    }
+    if way == 1 { SHIFT } else { CARD }
 }
 
 // How many cards stand behind the last shift start in the first `top` places, counted from the last place back.

@@ -3,7 +3,7 @@
 use mathlib.Core.Path.{_≡_, refl, sym, ap, _∙_, subst}
 use mathlib.Core.Logic.{_↔_, _⊎_, inl, inr}
 use mathlib.Core.Bool.{Bool, true, false, cond}
-use mathlib.Core.List.{List, [], _∷_, append-nil, reverse, reverse-reverse, IsPrefix}
+use mathlib.Core.List.{List, [], _∷_, _++_, append-nil, reverse, reverse-reverse, IsPrefix}
 use Prim.Native.Nat.{ℕ, _+_, _*_, _≤_, _<_}
 use native.Mathlib.Omega.{arith}
 use lib.ListN.{length}
@@ -11,7 +11,7 @@ use lib.Dec.{eqb}
 use borrow.Author.Tests.{eqb-true, eqb-false}
 use Rattle.lists.specs.Members.{Mem, Same}
 use Rattle.lists.specs.Words.{at}
-use Rattle.lists.proofs.Tests.{clash}
+use Rattle.lists.proofs.Tests.{clash, or-none}
 use Rattle.lists.proofs.Counts.{same-sum, same-length}
 use Rattle.graphs.specs.Nodes.{Vertex}
 use Rattle.graphs.specs.Graph.{Reached, met}
@@ -19,7 +19,7 @@ use Rattle.graphs.specs.Events.{Event, event, label, scan, History, known, labe
 use Rattle.graphs.specs.Depth.{DepthFirst}
 use Rattle.graphs.specs.Results.{marksLeft, marksNow}
 use Rattle.graphs.specs.Circles.{circularOf}
-use Rattle.graphs.specs.Image.{Image, graphOf}
+use Rattle.graphs.specs.Image.{Image, SameLinks, graphOf}
 use Rattle.graphs.specs.Refusals.{lent}
 use Rattle.graphs.specs.Claims.{Ready}
 use Rattle.graphs.proofs.Refusals.{long}
@@ -31,11 +31,12 @@ use Rattle.graphs.proofs.Results.{named-length, marks-first-blank, marks-now-bl
 use Rattle.graphs.proofs.Circles.{circular}
 use Rattle.graphs.proofs.Depth.{depth-first, depth-relates}
 use Rattle.graphs.proofs.Room.{profile-ready}
+use Rattle.graphs.proofs.Stated.{same-links}
 use Rattle.graphs.proofs.Places.{Frame, finishing}
 use Rattle.folding.specs.Machine.{Config, walking, restoring, finished, rollingBack, rolledBack}
 use Rattle.folding.specs.Calls.{Reason, ended, spent, stuck, Reply, unless, over, run, Call, runFor, numberOf, perform, serve, opening, openNumber, unopened, openedAt, openReply}
-use Rattle.folding.specs.Lines.{Line, begun, calls, lineA, lineB, folded}
-use Rattle.folding.specs.Claims.{stopReason, Faultless, Labelling, Demand2, Agrees, Agreement}
+use Rattle.folding.specs.Lines.{Walker, Line, addIf, noted, begun, calls, lineA, lineB, folded}
+use Rattle.folding.specs.Claims.{stopReason, Faultless, Labelling, Ended, Demand2, Agrees, Agreement}
 use Rattle.folding.proofs.Steps.{few-labels}
 use Rattle.folding.proofs.Future.{allOf, advances, scans, Short, short, prefix-of}
 use Rattle.folding.proofs.Invariant.{Trace, Scene, Holds, at-walking, at-restoring, at-rolling, at-end, at-undone, weight}
@@ -65,7 +66,8 @@ module _ (g : Image) (S : Sound g) (before : List ℕ) (start : ℕ) (hs : Verte
   R = profile-ready g S before start hs blank
 
   -- The phase of a place.
-  phase-is : (ph k : ℕ) (t : Trace) (v : ℕ) (done rest : List ℕ) (s : List Frame) (stale : ℕ) → Scene g before start area ph t v done rest s stale → (ph ≡ k → ⊥) → t .config .phase ≡ k → ⊥
+  phase-is : (ph k : ℕ) (t : Trace) (v : ℕ) (done rest : List ℕ) (s : List Frame) (stale : ℕ) → Scene g before start area ph t v done rest s stale → (ph ≡ k → ⊥)
+      → t .config .phase ≡ k → ⊥
   phase-is ph k t v done rest s stale C ne e = ne (sym (ap (λ (w : Config). w .phase) (C .is-config)) ∙ e)
 
   -- There is a step to come, so nothing is said of the links.
@@ -76,8 +78,9 @@ module _ (g : Image) (S : Sound g) (before : List ℕ) (start : ℕ) (hs : Verte
   history-is : (l : Line) (H : Held g S before start hs blank area lm l) → reverse (l .events) ≡ H .history
   history-is l H = ap reverse (H .events) ∙ reverse-reverse (H .history)
 
-  agrees-open : (ph : ℕ) (l : Line) (H : Held g S before start hs blank area lm l) (v : ℕ) (done rest ahead : List ℕ) (s : List Frame) (stale : ℕ) (vs : List ℕ) → Reached (graphOf g) before start vs → (ph ≡ finished → ⊥) → (ph ≡ rolledBack → ⊥)
-      → Scene g before start area ph (traceOf l (H .history)) v done rest s stale → finishing (graphOf g) before s v ahead (H .history) ≡ allOf g before start → l .rolling ≡ false → l .steps + weight done s ≡ 2 * advances (H .history) + scans (H .history) → Agrees g before start vs l
+  agrees-open : (ph : ℕ) (l : Line) (H : Held g S before start hs blank area lm l) (v : ℕ) (done rest ahead : List ℕ) (s : List Frame) (stale : ℕ) (vs : List ℕ)
+      → Reached (graphOf g) before start vs → (ph ≡ finished → ⊥) → (ph ≡ rolledBack → ⊥)
+      → Scene g before start area ph (traceOf l (H .history)) v done rest s stale → finishing (graphOf g) before s v ahead (H .history) ≡ allOf g before start → l .rolling ≡ false → l .steps + weight done s ≡ 2 * advances (H .history) + scans (H .history) → Agrees g vs (lineA g before start) l
   agrees-open ph l H v done rest ahead s stale vs E n3 n5 C fut calm cnt =
       let sh : Short (H .history) (allOf g before start) = subst (Short (H .history)) fut (short g before s v ahead (H .history)) in
       let x3 : l .config .phase ≡ finished → ⊥ = phase-is ph finished (traceOf l (H .history)) v done rest s stale C n3 in
@@ -94,7 +97,8 @@ module _ (g : Image) (S : Sound g) (before : List ℕ) (start : ℕ) (hs : Verte
         faultless = H .faultless;
       }
 
-  agrees-of : (l : Line) (H : Held g S before start hs blank area lm l) → Holds g before start area (traceOf l (H .history)) → (vs : List ℕ) → Reached (graphOf g) before start vs → Agrees g before start vs l
+  agrees-of : (l : Line) (H : Held g S before start hs blank area lm l) → Holds g before start area (traceOf l (H .history)) → (vs : List ℕ) → Reached (graphOf g) before start vs
+      → Agrees g vs (lineA g before start) l
   agrees-of l H (at-walking v done rest s stale C fut calm cnt) vs E = agrees-open walking l H v done rest rest s stale vs E (eqb-false walking finished refl) (eqb-false walking rolledBack refl) C fut calm cnt
   agrees-of l H (at-restoring v done rest s stale C fut calm cnt) vs E = agrees-open restoring l H v done rest [] s stale vs E (eqb-false restoring finished refl) (eqb-false restoring rolledBack refl) C fut calm cnt
   agrees-of l H (at-rolling v done rest s stale C sh ro cnt) vs E =
@@ -138,13 +142,15 @@ module _ (g : Image) (S : Sound g) (before : List ℕ) (start : ℕ) (hs : Verte
 
   -- ---- labels
   -- Which marks are 65,535, while B is not rolled back.
-  blanks-now : (l : Line) (h : History) → l .config .marks ≡ marksNow (g .n + g .m) before h area → Labels (g .n) (known before h) → (x : ℕ) → 0 < x → x ≤ g .n → (at 0 (l .config .marks) x ≡ 65535) ↔ Mem x before
+  blanks-now : (l : Line) (h : History) → l .config .marks ≡ marksNow (g .n + g .m) before h area → Labels (g .n) (known before h) → (x : ℕ) → 0 < x → x ≤ g .n
+      → (at 0 (l .config .marks) x ≡ 65535) ↔ Mem x before
   blanks-now l h e L x p q =
       let B : (at 0 (marksNow (g .n + g .m) before h area) x ≡ 65535) ↔ Mem x before = marks-now-blank (g .n + g .m) before h area (few-labels g S start before h L) x p (omega arith) in
       rw e B
 
   -- What a place says: nothing has ended, and circular is what the events say.
-  labelling-open : (ph : ℕ) (l : Line) (H : Held g S before start hs blank area lm l) (v : ℕ) (done rest : List ℕ) (s : List Frame) (stale : ℕ) → (ph ≡ finished → ⊥) → (ph ≡ rolledBack → ⊥) → Scene g before start area ph (traceOf l (H .history)) v done rest s stale → Labelling g before start area l
+  labelling-open : (ph : ℕ) (l : Line) (H : Held g S before start hs blank area lm l) (v : ℕ) (done rest : List ℕ) (s : List Frame) (stale : ℕ) → (ph ≡ finished → ⊥)
+      → (ph ≡ rolledBack → ⊥) → Scene g before start area ph (traceOf l (H .history)) v done rest s stale → Labelling g before start area l
   labelling-open ph l H v done rest s stale n3 n5 C = record {
     events = λ e. absurd (phase-is ph finished (traceOf l (H .history)) v done rest s stale C n3 e);
     labels = λ e. absurd (phase-is ph finished (traceOf l (H .history)) v done rest s stale C n3 e);
@@ -193,12 +199,30 @@ module _ (g : Image) (S : Sound g) (before : List ℕ) (start : ℕ) (hs : Verte
 
   -- ---- a run that is long enough
   -- While no order was taken: ended, or a step is to come and fewer were made than in all.
-  under-way : (t : Trace) → Holds g before start area t → t .rolling ≡ false → (t .config .phase ≡ finished) ⊎ ((over (t .config) ≡ false) × (t .steps < 2 * advances (allOf g before start) + scans (allOf g before start)))
+  under-way : (t : Trace) → Holds g before start area t → t .rolling ≡ false
+      → (t .config .phase ≡ finished) ⊎ ((over (t .config) ≡ false) × (t .steps < 2 * advances (allOf g before start) + scans (allOf g before start)))
   under-way t (at-walking v done rest s stale C fut calm cnt) z = let sh = subst (Short (t .history)) fut (short g before s v rest (t .history)) in inr (ap over (C .is-config), omega (arith, sh .advanced, sh .to-scan))
   under-way t (at-restoring v done rest s stale C fut calm cnt) z = let sh = subst (Short (t .history)) fut (short g before s v [] (t .history)) in inr (ap over (C .is-config), omega (arith, sh .advanced, sh .to-scan))
   under-way t (at-rolling v done rest s stale C sh ro cnt) z = clash (sym ro ∙ z)
   under-way t (at-end K e calm cnt) z = inl (ap (λ (w : Config). w .phase) (K .is-config))
   under-way t (at-undone K x ro cnt) z = clash (sym ro ∙ z)
+
+  -- Once one was taken: rolled back, or a step is to come and fewer were made since than may be.
+  rolling-way : (t : Trace) → Holds g before start area t → t .rolling ≡ true
+      → (t .config .phase ≡ rolledBack) ⊎ ((over (t .config) ≡ false) × (t .since < advances (allOf g before start) + scans (allOf g before start)))
+  rolling-way t (at-walking v done rest s stale C fut calm cnt) z = clash (sym z ∙ calm)
+  rolling-way t (at-restoring v done rest s stale C fut calm cnt) z = clash (sym z ∙ calm)
+  rolling-way t (at-rolling v done rest s stale C sh ro cnt) z = inr (ap over (C .is-config), omega arith)
+  rolling-way t (at-end K e calm cnt) z = clash (sym z ∙ calm)
+  rolling-way t (at-undone K x ro cnt) z = inl (ap (λ (w : Config). w .phase) (K .is-config))
+
+  -- Ended: no order was taken.
+  pub calm-at : (t : Trace) → Holds g before start area t → t .config .phase ≡ finished → t .rolling ≡ false
+  calm-at t (at-walking v done rest s stale C fut calm cnt) e = calm
+  calm-at t (at-restoring v done rest s stale C fut calm cnt) e = calm
+  calm-at t (at-rolling v done rest s stale C sh ro cnt) e = absurd (phase-is rollingBack finished t v done rest s stale C (eqb-false rollingBack finished refl) e)
+  calm-at t (at-end K q calm cnt) e = calm
+  calm-at t (at-undone K x ro cnt) e = absurd (eqb-false rolledBack finished refl (sym (ap (λ (w : Config). w .phase) (K .is-config)) ∙ e))
 
   -- Line A's advances are at most m, its scans at most n.
   pub counts-most : (advances (allOf g before start) ≤ g .m) × (scans (allOf g before start) ≤ g .n)
@@ -223,16 +247,27 @@ module _ (g : Image) (S : Sound g) (before : List ℕ) (start : ℕ) (hs : Verte
       go true q = eqb-true made k q
       go false q = absurd (subst Free (e ∙ (λ i. cond (o i) ended (cond (q i) spent stuck))) f)
 
-  run-ends : (l : Line) (k : ℕ) → Held g S before start hs blank area lm l → l .steps ≡ 0 → l .rolling ≡ false → 2 * g .m + g .n ≤ k → run k (l .config) .config .phase ≡ finished
-  run-ends l k H z calm big =
-      let T : Ran g S before start area (traceOf l (H .history)) (run k (l .config)) = run-holds g S before start area k (traceOf l (H .history)) (H .holds) (H .calm) in
-      go (under-way (advance (traceOf l (H .history)) (run k (l .config))) (T .holds) calm) (T .free)
-    where
-      go : (run k (l .config) .config .phase ≡ finished) ⊎ ((over (run k (l .config) .config) ≡ false) × (l .steps + run k (l .config) .steps < 2 * advances (allOf g before start) + scans (allOf g before start))) → Free (run k (l .config) .reason) → run k (l .config) .config .phase ≡ finished
-      go (inl e) f = e
-      go (inr q) f =
-          let all : run k (l .config) .steps ≡ k = spent-all k (run k (l .config) .steps) (run k (l .config) .config) (run k (l .config) .reason) (run-stops k (l .config) .reason) f (q .0) in
-          absurd (omega (arith, q .1, total-most))
+  -- So a run that is long enough leaves no step to come.
+  module _ (l : Line) (k : ℕ) (H : Held g S before start hs blank area lm l) (big : 2 * g .m + g .n ≤ k) where
+    ran : Ran g S before start area (traceOf l (H .history)) (run k (l .config))
+    ran = run-holds g S before start area k (traceOf l (H .history)) (H .holds) (H .calm)
+
+    all-spent : over (run k (l .config) .config) ≡ false → run k (l .config) .steps ≡ k
+    all-spent o = spent-all k (run k (l .config) .steps) (run k (l .config) .config) (run k (l .config) .reason) (run-stops k (l .config) .reason) (ran .free) o
+
+    run-ends : l .rolling ≡ false → run k (l .config) .config .phase ≡ finished
+    run-ends calm = go (under-way (advance (traceOf l (H .history)) (run k (l .config))) (ran .holds) calm)
+      where
+        go : (run k (l .config) .config .phase ≡ finished) ⊎ ((over (run k (l .config) .config) ≡ false) × (l .steps + run k (l .config) .steps < 2 * advances (allOf g before start) + scans (allOf g before start))) → run k (l .config) .config .phase ≡ finished
+        go (inl e) = e
+        go (inr q) = absurd (omega (arith, all-spent (q .0), q .1, total-most))
+
+    run-undoes : l .rolling ≡ true → run k (l .config) .config .phase ≡ rolledBack
+    run-undoes ro = go (rolling-way (advance (traceOf l (H .history)) (run k (l .config))) (ran .holds) ro)
+      where
+        go : (run k (l .config) .config .phase ≡ rolledBack) ⊎ ((over (run k (l .config) .config) ≡ false) × (addIf (l .rolling) (l .since) (run k (l .config) .steps) < advances (allOf g before start) + scans (allOf g before start))) → run k (l .config) .config .phase ≡ rolledBack
+        go (inl e) = e
+        go (inr q) = absurd (omega (arith, all-spent (q .0), rw ro at (q .1), total-most))
 
 -- ---- the claims
 -- What an opening taken leaves meets the invariant, and so does every list of calls.
@@ -257,21 +292,57 @@ module _ (g : Image) (before : List ℕ) (start : ℕ) (marks area : List ℕ) (
       reply : (P : Reply → Type 0) → P (openReply g before start marks area) → P (opening g before start marks area)
       reply P p = subst (λ (k : ℕ). P (unless k (unopened g start marks) area (openReply g before start marks area))) (sym h) p
 
-pub agreement : Agreement folded
-agreement g before start marks area h vs E cs =
+-- Once B has ended, no roll-back order was taken.
+pub ended-calm : (g : Image) (before : List ℕ) (start : ℕ) (marks area : List ℕ) → openNumber g before start marks area ≡ 0 → (cs : List Call)
+    → lineB folded g before start marks area cs .config .phase ≡ finished → lineB folded g before start marks area cs .rolling ≡ false
+ended-calm g before start marks area h cs e =
     let H = held g before start marks area h cs in
     let P = profile g before start marks area h in
-    agrees-of g (P .sound) before start (P .start-vertex) (P .listed) marks (marks-long g before start marks area h) (lineB folded g before start marks area cs) H (H .holds) vs E
+    calm-at g (P .sound) before start (P .start-vertex) (P .listed) marks (marks-long g before start marks area h) (traceOf (lineB folded g before start marks area cs) (H .history)) (H .holds) e
 
-ending : (g : Image) (before : List ℕ) (start : ℕ) (marks area : List ℕ) → openNumber g before start marks area ≡ 0 → (k : ℕ) (room : List ℕ) → 2 * g .m + g .n ≤ k → 6 * k ≤ length room → lineB folded g before start marks area (runFor k room ∷ []) .config .phase ≡ finished
-unfolding calls serve
-ending g before start marks area h k room big long-room =
+-- Line A has the same events on any image with the same links.
+same-line : (a g : Image) → SameLinks a g → (before : List ℕ) (start : ℕ) (marks area : List ℕ) → openNumber g before start marks area ≡ 0
+    → lineA g before start ≡ lineA a before start
+unfolding openNumber
+same-line a g L before start marks area h = ap reverse (same-links g a (sym L) .depth before start (lent (g .n + g .m) marks ∷ lent 3 area ∷ []) h)
+
+pub agreement : Agreement folded
+agreement a g L before start marks area h vs E cs =
+    let H = held g before start marks area h cs in
     let P = profile g before start marks area h in
-    let l = begun (opening g before start marks area) in
-    let H = held g before start marks area h [] in
-    let n : numberOf (begun (opening g before start marks area) .config) (runFor k room) ≡ 0 = run-number g (P .sound) before start (P .start-vertex) (P .listed) marks (marks-long g before start marks area h) (begun (opening g before start marks area)) k room H long-room in
-    ap (λ (x : ℕ). unless x (l .config) room (perform (l .config) (runFor k room)) .config .phase) n
-    ∙ run-ends g (P .sound) before start (P .start-vertex) (P .listed) marks (marks-long g before start marks area h) (begun (opening g before start marks area)) k H refl refl big
+    subst (λ (es : List Event). Agrees g vs es (lineB folded g before start marks area cs)) (same-line a g L before start marks area h)
+    (agrees-of g (P .sound) before start (P .start-vertex) (P .listed) marks (marks-long g before start marks area h) (lineB folded g before start marks area cs) H (H .holds) vs E)
+
+-- One call more behind a list of them.
+calls-last : (W : Walker) (l : Line) (cs : List Call) (c : Call) → calls W l (cs ++ (c ∷ [])) ≡ noted (calls W l cs) c (W .serves (calls W l cs .config) c)
+unfolding calls
+calls-last W l [] c = refl
+calls-last W l (d ∷ ds) c = calls-last W (noted l d (W .serves (l .config) d)) ds c
+
+-- A run that is long enough, behind any list of calls.
+module _ (g : Image) (before : List ℕ) (start : ℕ) (marks area : List ℕ) (h : openNumber g before start marks area ≡ 0) (cs : List Call) (k : ℕ) (room : List ℕ) (big : 2 * g .m + g .n ≤ k) (roomy : 6 * k ≤ length room) where
+  abbrev l : Line
+  l = lineB folded g before start marks area cs
+
+  -- It is not refused, and leads where its steps lead.
+  leads : serve (l .config) (runFor k room) .config .phase ≡ run k (l .config) .config .phase
+  unfolding serve
+  leads =
+      let P = profile g before start marks area h in
+      let n = run-number g (P .sound) before start (P .start-vertex) (P .listed) marks (marks-long g before start marks area h) l k room (held g before start marks area h cs) roomy in
+      ap (λ (x : ℕ). unless x (l .config) room (perform (l .config) (runFor k room)) .config .phase) n
+
+  pub enough : (l .rolling ≡ false → serve (l .config) (runFor k room) .config .phase ≡ finished) × (l .rolling ≡ true → serve (l .config) (runFor k room) .config .phase ≡ rolledBack)
+  enough =
+      let P = profile g before start marks area h in
+      let L = marks-long g before start marks area h in
+      let H = held g before start marks area h cs in
+      (λ calm. leads ∙ run-ends g (P .sound) before start (P .start-vertex) (P .listed) marks L l k H big calm, λ ro. leads ∙ run-undoes g (P .sound) before start (P .start-vertex) (P .listed) marks L l k H big ro)
+
+  ending : Ended (lineB folded g before start marks area (cs ++ (runFor k room ∷ [])))
+  ending =
+      subst Ended (sym (calls-last folded (begun (opening g before start marks area)) cs (runFor k room)))
+      (record { finished-calm = λ calm. enough .0 (sym (or-none (l .rolling)) ∙ calm); undone-rolling = λ ro. enough .1 (sym (or-none (l .rolling)) ∙ ro) })
 
 pub demand2 : Demand2 folded
 demand2 = record {

@@ -61,7 +61,7 @@ run-confined w k area h =
     confined w area (ran (run k w .reason)) (run k w .steps) (run k w .events) (run k w .config) (R .within) (omega (arith, words-length (run k w .events), R .few, run-stops k w .budget, Z .area-long))
 
 -- A step that is not refused fits: there is one to come, and its words are in kind.
-fits-of : (w : Config) → firstOf (stepRefusals w) ≡ 0 → canStep w ≡ true
+pub fits-of : (w : Config) → firstOf (stepRefusals w) ≡ 0 → canStep w ≡ true
 fits-of w h =
     let a = all-false (stepRefusals w) [] (omega arith) h in
     not-false (canStep w) (sym (ap (λ (x : Bool). not x && not (canStep w)) (a .0 .1 .0)) ∙ a .0 .0)

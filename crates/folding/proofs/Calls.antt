@@ -118,6 +118,10 @@ module _ (g : Image) (S : Sound g) (before : List ℕ) (start : ℕ) (hs : Verte
   order-number : (w : Config) (own : List Refusal) → Sized w → stateNumber w [] own ≡ firstOf own
   order-number w own Z = λ i. firstOf (refuse 1 (Z .n-in i) ∷ refuse 2 (Z .m-in i) ∷ refuse 3 false ∷ refuse 4 (Z .start-in i) ∷ refuse 8 (not (Z .fields i)) ∷ own)
 
+  -- The number of a call that is lent no area is its own.
+  pub own-number : (l : Line) (own : List Refusal) → Held l → stateNumber (l .config) [] own ≡ firstOf own
+  own-number l own H = order-number (l .config) own (sized (traceOf l (H .history)) (H .holds))
+
   -- ---- a refused call
   refused-held : (l : Line) (c : Call) (k : ℕ) (room : List ℕ) → (k ≡ 8 → ⊥) → orders c (refused k) ≡ false → Held l → Held (noted l c (refusing k (l .config) room))
   refused-held l c k room ne o H = record {

@@ -58,7 +58,8 @@ module _ (g : Image) (S : Sound g) (before : List ℕ) (start : ℕ) (hs : Verte
   since-most t (at-end K e calm cnt) z = omega (arith, z calm)
   since-most t (at-undone K x ro cnt) z = cnt
 
-  near-call : (l : Line) (c : Call) → Held g S before start hs blank marks long l → Held g S before start hs blank marks long (noted l c (serve (l .config) c)) → Near l → Near (noted l c (serve (l .config) c))
+  near-call : (l : Line) (c : Call) → Held g S before start hs blank marks long l → Held g S before start hs blank marks long (noted l c (serve (l .config) c)) → Near l
+      → Near (noted l c (serve (l .config) c))
   near-call l c H K N = go (l .rolling) (orders c (serve (l .config) c .answer)) refl refl
     where
       go : (a b : Bool) → l .rolling ≡ a → orders c (serve (l .config) c .answer) ≡ b → Near (noted l c (serve (l .config) c))
@@ -79,7 +80,8 @@ module _ (g : Image) (S : Sound g) (before : List ℕ) (start : ℕ) (hs : Verte
       omega (arith, k .0, k .1, S .few-vertices, S .few-edges, since-most (traceOf l (H .history)) (H .holds) (H .calm))
 
 -- All steps that the calls of a line make.
-pub steps-few : (g : Image) (before : List ℕ) (start : ℕ) (marks area : List ℕ) → openNumber g before start marks area ≡ 0 → (cs : List Call) → lineB folded g before start marks area cs .steps ≤ 14000
+pub steps-few : (g : Image) (before : List ℕ) (start : ℕ) (marks area : List ℕ) → openNumber g before start marks area ≡ 0 → (cs : List Call)
+    → lineB folded g before start marks area cs .steps ≤ 14000
 unfolding calls
 steps-few g before start marks area h cs =
     let P = profile g before start marks area h in
@@ -88,12 +90,13 @@ steps-few g before start marks area h cs =
     (near-calls g (P .sound) before start (P .start-vertex) (P .listed) marks L (lineB folded g before start marks area []) cs (held g before start marks area h []) (omega arith))
 
 -- All events of a line.
-pub events-few : (g : Image) (before : List ℕ) (start : ℕ) (marks area : List ℕ) → openNumber g before start marks area ≡ 0 → (cs : List Call) → length (lineB folded g before start marks area cs .events) ≤ 10000
+pub events-few : (g : Image) (before : List ℕ) (start : ℕ) (marks area : List ℕ) → openNumber g before start marks area ≡ 0 → (cs : List Call)
+    → length (lineB folded g before start marks area cs .events) ≤ 10000
 unfolding openNumber
 events-few g before start marks area h cs =
     let P = profile g before start marks area h in
     let E = depth-first (graphOf g) before start (profile-ready g (P .sound) before start (P .start-vertex) (P .listed)) .complete .labels in
-    let A : Agrees g before start (labelled (allOf g before start)) (lineB folded g before start marks area cs) = agreement g before start marks area h (labelled (allOf g before start)) E cs in
+    let A : Agrees g (labelled (allOf g before start)) (lineA g before start) (lineB folded g before start marks area cs) = agreement g g refl before start marks area h (labelled (allOf g before start)) E cs in
     let p = A .first in
     omega (arith, length-append (lineB folded g before start marks area cs .events) (p .0), ap length (p .1), words-length (lineA g before start), room g before start (lent (g .n + g .m) marks ∷ lent 3 area ∷ []) h .0, P .sound .few-vertices, P .sound .few-edges)
 
@@ -106,7 +109,8 @@ next-held t (at-end K e calm cnt) = ap (λ (w : Config). w .next) (K .is-config)
 next-held t (at-undone K x ro cnt) = ap (λ (w : Config). w .next) (K .is-config)
 
 -- The next label number of a line is one more than the elements that it has labelled.
-pub next-counts : (g : Image) (before : List ℕ) (start : ℕ) (marks area : List ℕ) → openNumber g before start marks area ≡ 0 → (cs : List Call) → lineB folded g before start marks area cs .config .next ≡ suc (length (labelled (reverse (lineB folded g before start marks area cs .events))))
+pub next-counts : (g : Image) (before : List ℕ) (start : ℕ) (marks area : List ℕ) → openNumber g before start marks area ≡ 0 → (cs : List Call)
+    → lineB folded g before start marks area cs .config .next ≡ suc (length (labelled (reverse (lineB folded g before start marks area cs .events))))
 next-counts g before start marks area h cs =
     let l : Line = lineB folded g before start marks area cs in
     let H = held g before start marks area h cs in

@@ -73,10 +73,13 @@ stepNumber w area = stateNumber w (workAreas w 6 area) (stepRefusals w)
 unfoldable pub rollBackNumber : Config → ℕ
 rollBackNumber w = stateNumber w [] (refuse 9 (over w) ∷ [])
 
--- The number of accepting a state, with the panel's figure: 9 in phase 5 or 6, 10 in phase 1, 2 or 4, then 11.
+-- Accepting's own, by the phase and the panel's figure: 9 in phase 5 or 6, 10 in phase 1, 2 or 4, then 11.
+abbrev pub acceptRefusals : ℕ → ℕ → List Refusal
+acceptRefusals p figure = refuse 9 (eqb p rolledBack || eqb p accepted) ∷ refuse 10 (eqb p walking || (eqb p restoring || eqb p rollingBack)) ∷ refuse 11 (figureOut figure) ∷ []
+
+-- The number of accepting a state, with the panel's figure. It is lent no areas.
 unfoldable pub acceptNumber : Config → ℕ → ℕ
-acceptNumber w figure =
-    stateNumber w [] (refuse 9 (eqb (w .phase) rolledBack || eqb (w .phase) accepted) ∷ refuse 10 (eqb (w .phase) walking || (eqb (w .phase) restoring || eqb (w .phase) rollingBack)) ∷ refuse 11 (figureOut figure) ∷ [])
+acceptNumber w figure = stateNumber w [] (acceptRefusals (w .phase) figure)
 
 -- ---- what the calls do
 -- The same state in another phase: 4 by a roll-back order, 6 by accepting.

@@ -70,7 +70,7 @@ sharedFile = record { n = 3; m = 3; after = 4 ∷ 6 ∷ 0 ∷ 5 ∷ 0 ∷ 0 ∷ 
 abbrev farCircle : Image
 farCircle = record { n = 3; m = 2; after = 0 ∷ 4 ∷ 5 ∷ 0 ∷ 0 ∷ []; tail = 3 ∷ 2 ∷ [] }
 
-abbrev nearCircle : Image
+abbrev pub nearCircle : Image
 nearCircle = record { n = 3; m = 3; after = 4 ∷ 5 ∷ 6 ∷ 0 ∷ 0 ∷ 0 ∷ []; tail = 2 ∷ 3 ∷ 2 ∷ [] }
 
 -- The printed events, three words each.

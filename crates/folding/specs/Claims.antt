@@ -13,9 +13,9 @@ use Rattle.graphs.specs.Events.{Kind, label, advance-tree, advance-nontree, ret
 use Rattle.graphs.specs.Depth.{DepthFirst}
 use Rattle.graphs.specs.Results.{activeMark, blankMark, marksFirst, marksLeft, marksNow, marksRest}
 use Rattle.graphs.specs.Circles.{Circular, circularOf}
-use Rattle.graphs.specs.Image.{Image, graphOf}
-use Rattle.folding.specs.Machine.{Config, finished, rollingBack, rolledBack, forward, markAhead, labelMark, unscanned, Stepped, canStep, step}
-use Rattle.folding.specs.Calls.{Reason, ended, spent, stuck, Answer, ran, taken, refused, Reply, refusing, over, fieldsIn, Run, run, Call, runFor, single, areaOf, numberOf, perform, runNumber, stepNumber, openNumber, unopened, rollBack, rollBackNumber, openedAt, openReply}
+use Rattle.graphs.specs.Image.{Image, SameLinks, graphOf}
+use Rattle.folding.specs.Machine.{Config, walking, restoring, finished, rollingBack, rolledBack, accepted, forward, markAhead, labelMark, unscanned, Stepped, canStep, step}
+use Rattle.folding.specs.Calls.{Reason, ended, spent, stuck, Answer, ran, taken, refused, Reply, refusing, over, fieldsIn, Run, run, Call, runFor, single, areaOf, numberOf, perform, runNumber, stepNumber, openNumber, unopened, rollBack, rollBackNumber, stateNumber, acceptNumber, openedAt, openReply}
 use Rattle.folding.specs.Lines.{Walker, Line, lineA, lineB}
 
 -- ---- demand 1: the table's conditions
@@ -146,13 +146,18 @@ pub record Labelling (g : Image) (before : List ℕ) (start : ℕ) (marks : List
   pub circle : l .config .phase ≡ finished → (l .config .circular ≡ 1) ↔ Circular (graphOf g) before start
   pub blanks : (x : ℕ) → 0 < x → x ≤ g .n → (at 0 (l .config .marks) x ≡ 65535) ↔ Mem x before
 
--- Demand 2 of the folded search: under every list of calls, and a run of 2 m + n steps ends.
+-- No step is to come: B is rolled back where a roll-back order was taken, and has ended where none was.
+pub record Ended (l : Line) : Type 0 where
+  pub finished-calm : l .rolling ≡ false → l .config .phase ≡ finished
+  pub undone-rolling : l .rolling ≡ true → l .config .phase ≡ rolledBack
+
+-- Demand 2 of the folded search, under every list of calls; and behind every list a run of 2 m + n steps is long enough.
 pub record Demand2 (W : Walker) : Type 0 where
   pub labelling : (g : Image) (before : List ℕ) (start : ℕ) (marks area : List ℕ) → openNumber g before start marks area ≡ 0 → (cs : List Call)
       → Labelling g before start marks (lineB W g before start marks area cs)
-  pub ending : (g : Image) (before : List ℕ) (start : ℕ) (marks area : List ℕ) → openNumber g before start marks area ≡ 0
+  pub ending : (g : Image) (before : List ℕ) (start : ℕ) (marks area : List ℕ) → openNumber g before start marks area ≡ 0 → (cs : List Call)
       → (k : ℕ) (room : List ℕ) → 2 * g .m + g .n ≤ k → 6 * k ≤ length room
-      → lineB W g before start marks area (runFor k room ∷ []) .config .phase ≡ finished
+      → Ended (lineB W g before start marks area (cs ++ (runFor k room ∷ [])))
 
 -- With no element on the blank, an opening clears all marks, and under no list of calls does a mark of an element read 65,535; where none
 -- does, the end of a roll-back clears the n marks of elements, and a mark of 32,768 or more counts as not yet scanned.
@@ -173,14 +178,15 @@ Faultless (ran stuck ∷ rest) = ⊥
 Faultless (taken ∷ rest) = Faultless rest
 Faultless (refused k ∷ rest) = (k ≢ 8) × Faultless rest
 
--- Line B, after a list of calls, beside line A; vs are the elements reached, in any order (`Complete.labels` has such a list).
-pub record Agrees (g : Image) (before : List ℕ) (start : ℕ) (vs : List ℕ) (l : Line) : Type 0 where
+-- Line B, after a list of calls, on the image g, beside line A's events; vs are the elements reached, in any order (`Complete.labels` has
+-- such a list).
+pub record Agrees (g : Image) (vs : List ℕ) (eventsA : List Event) (l : Line) : Type 0 where
   -- B's events are the first of A's, in order.
-  pub first : IsPrefix (l .events) (lineA g before start)
+  pub first : IsPrefix (l .events) eventsA
   -- While no roll-back order was taken, B has ended exactly when its steps are twice the references met plus the elements reached.
   pub ends : l .rolling ≡ false → (l .config .phase ≡ finished) ↔ (l .steps ≡ 2 * met (graphOf g) vs + length vs)
   -- Its events are then all of A's.
-  pub all : l .rolling ≡ false → l .config .phase ≡ finished → l .events ≡ lineA g before start
+  pub all : l .rolling ≡ false → l .config .phase ≡ finished → l .events ≡ eventsA
   -- Once one was taken, the steps since the first are at most the references met plus the elements reached.
   pub bound : l .rolling ≡ true → l .since ≤ met (graphOf g) vs + length vs
   -- They are fewer while B is not rolled back.
@@ -189,8 +195,22 @@ pub record Agrees (g : Image) (before : List ℕ) (start : ℕ) (vs : List ℕ) 
   pub restored : (l .config .phase ≡ finished) ⊎ (l .config .phase ≡ rolledBack) → (l .config .after ≡ g .after) × (l .config .tail ≡ g .tail)
   pub faultless : Faultless (l .answers)
 
--- One claim about the whole list: every profile, with the elements on the blank, that an opening takes (sound, its areas long enough:
--- SoundClaim), every list of calls.
+-- One claim about the whole list: line A on an image a, line B on an image g with the same links in areas of its own, which an opening takes
+-- with the elements on the blank (sound, its areas long enough: SoundClaim); every list of calls.
 abbrev pub Agreement : Walker → Type 0
-Agreement W = (g : Image) (before : List ℕ) (start : ℕ) (marks area : List ℕ) → openNumber g before start marks area ≡ 0
-    → (vs : List ℕ) → Reached (graphOf g) before start vs → (cs : List Call) → Agrees g before start vs (lineB W g before start marks area cs)
+Agreement W = (a g : Image) → SameLinks a g → (before : List ℕ) (start : ℕ) (marks area : List ℕ) → openNumber g before start marks area ≡ 0
+    → (vs : List ℕ) → Reached (graphOf g) before start vs → (cs : List Call) → Agrees g vs (lineA a before start) (lineB W g before start marks area cs)
+
+-- ---- orders
+-- Phases 1, 2 and 4: a step is to come.
+abbrev pub UnderWay : ℕ → Type 0
+UnderWay p = (p ≡ walking) ⊎ ((p ≡ restoring) ⊎ (p ≡ rollingBack))
+
+-- Of a state in kind, a roll-back order is taken exactly in phases 1, 2 and 4 and refused with 9 in the others; given again in phase 4 it
+-- changes nothing. The state of a refused opening is refused by every call, and by accepting.
+pub record OrderClaim (W : Walker) : Type 0 where
+  pub ordered : (w : Config) → stateNumber w [] [] ≡ 0 → (W .serves w rollBack .answer ≡ taken) ↔ UnderWay (w .phase)
+  pub else-nine : (w : Config) → stateNumber w [] [] ≡ 0 → (UnderWay (w .phase) → ⊥) → W .serves w rollBack .answer ≡ refused 9
+  pub again : (w : Config) → w .phase ≡ rollingBack → W .serves w rollBack .config ≡ w
+  pub no-call : (g : Image) (start : ℕ) (marks : List ℕ) (c : Call) → numberOf (unopened g start marks) c ≢ 0
+  pub no-card : (g : Image) (start : ℕ) (marks : List ℕ) (figure : ℕ) → acceptNumber (unopened g start marks) figure ≢ 0

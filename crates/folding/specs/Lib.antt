@@ -2,4 +2,8 @@ pub mod Machine
 pub mod Calls
 pub mod Lines
 pub mod Claims
+pub mod Stated
+pub mod Accepting
 pub mod Cards
+pub mod Rows
+pub mod Wrong

@@ -1,3 +1,6 @@
+-- The rows, first: what changes a rule is told by the row that holds it.
+pub mod Rows
+-- Laws and theorems.
 pub mod Nodes
 pub mod Labels
 pub mod Refusals
@@ -17,8 +20,9 @@ pub mod Tails
 pub mod Breadth
 pub mod Queues
 pub mod Room
-pub mod Examples
 pub mod Trees
 pub mod Untouched
+pub mod Agreeing
+pub mod Stated
 pub mod Renamed
 pub mod CirclesRenamed

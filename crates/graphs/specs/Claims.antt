@@ -16,8 +16,8 @@ use Rattle.graphs.specs.Breadth.{BreadthFirst}
 use Rattle.graphs.specs.Search.{recorder, search, depthFirst, drain, breadthFirst}
 use Rattle.graphs.specs.Results.{marksFirst, marksLeft, parentWord, incrementWord, incrementLeft}
 use Rattle.graphs.specs.Circles.{Circular, circularOf}
-use Rattle.graphs.specs.Image.{Image, edgesOf, to, graphOf}
-use Rattle.graphs.specs.ArrayForm.{ArrayForm, arrayGraph, arrayLeft, numbersLeft}
+use Rattle.graphs.specs.Image.{Image, SameLinks, edgesOf, to, graphOf}
+use Rattle.graphs.specs.ArrayForm.{ArrayForm, arrayGraph, arrayOf, numbersOf, arrayLeft, numbersLeft}
 use Rattle.graphs.specs.Refusals.{Lent, firstOf, refuse, verticesOut, edgesOut, vertexOut, afterOut, tailOut, listOut, short, sizeRefusals, imageAreas, imageRefusals, rises, blanksOut, startBlank, sound, imageNumber, searchNumber, arrayNumber, arraySearchNumber}
 
 -- A search may begin: a graph, vertices labelled beforehand, and a start that is not among them.
@@ -114,6 +114,21 @@ pub record NoBlanksClaim : Type 0 where
       → sound g [] start ≡ not (verticesOut (g .n) || (edgesOut (g .m) || (vertexOut (g .n) start || (afterOut g || (tailOut (g .n) (g .m) (g .tail) || listOut g)))))
   pub first : (k : ℕ) (area : List ℕ) → marksFirst k [] area ≡ cleared k area
   pub marks : (k : ℕ) (h : History) (area : List ℕ) → marksLeft k [] h area ≡ filled (λ x. rank x (labelled h)) k area
+
+-- ---- the stated words alone
+-- Two images get the same numbers, where what each call is lent besides is as long as stated or is not, alike; where they are taken they have
+-- the same array form, the same elements reached and the same searches.
+pub record Alike (g h : Image) : Type 0 where
+  pub checked : (areas others : List Lent) → short areas ≡ short others → imageNumber g areas ≡ imageNumber h others
+  pub number : (before : List ℕ) (start : ℕ) (areas others : List Lent) → short areas ≡ short others → searchNumber g before start areas ≡ searchNumber h before start others
+  pub array : (areas : List Lent) → imageNumber g areas ≡ 0 → (arrayOf g ≡ arrayOf h) × (numbersOf g ≡ numbersOf h)
+  pub reached : (before : List ℕ) (start : ℕ) (areas : List Lent) → searchNumber g before start areas ≡ 0 → (vs : List ℕ) → Reached (graphOf g) before start vs → Reached (graphOf h) before start vs
+  pub depth : (before : List ℕ) (start : ℕ) (areas : List Lent) → searchNumber g before start areas ≡ 0 → depthFirst (graphOf g) before start ≡ depthFirst (graphOf h) before start
+  pub breadth : (before : List ℕ) (start : ℕ) (areas : List Lent) → searchNumber g before start areas ≡ 0 → breadthFirst (graphOf g) before start ≡ breadthFirst (graphOf h) before start
+
+-- What is checked, converted and searched depends on the stated words alone: whatever the words, and whatever the areas hold past them.
+abbrev pub SameLinksClaim : Type 0
+SameLinksClaim = (g h : Image) → SameLinks g h → Alike g h
 
 -- Of a sound profile, the events of either search fit 6 (n + m) words.
 abbrev pub RoomClaim : Type 0

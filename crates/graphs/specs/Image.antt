@@ -1,6 +1,8 @@
 -- Linked images (document 01, "Images").
+use mathlib.Core.Path.{_≡_}
 use mathlib.Core.List.{List, [], _∷_, _++_}
-use Prim.Native.Nat.{ℕ, zero, suc}
+use Prim.Native.Nat.{ℕ, zero, suc, _+_}
+use lib.ListN.{take}
 use Rattle.lists.specs.Words.{at}
 use Rattle.graphs.specs.Graph.{Graph}
 
@@ -11,6 +13,14 @@ pub record Image : Type 0 where
   pub m : ℕ
   pub after : List ℕ
   pub tail : List ℕ
+
+-- An image with its stated words alone: n + m after words and m tails. What its areas hold past these is no part of the profile.
+abbrev pub stated : Image → Image
+stated g = record { n = g .n; m = g .m; after = take (g .n + g .m) (g .after); tail = take (g .m) (g .tail) }
+
+-- Two images, each in areas of its own, have the same links: the same sizes and, link for link, the same stated words.
+abbrev pub SameLinks : Image → Image → Type 0
+SameLinks g h = stated g ≡ stated h
 
 -- The references from x on, at most k of them.
 abbrev pub chain : ℕ → List ℕ → ℕ → List ℕ

@@ -10,3 +10,4 @@ pub mod Image
 pub mod ArrayForm
 pub mod Refusals
 pub mod Claims
+pub mod Rows

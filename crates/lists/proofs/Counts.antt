@@ -1,7 +1,7 @@
 -- Laws of counts, sums and ranks.
 -- By recursion on the list, with a member taken out of it where two lists are compared.
 use mathlib.Core.Path.{_≡_, refl, sym, ap, _∙_, subst}
-use mathlib.Core.Bool.{Bool, true, false, not, cond, _||_}
+use mathlib.Core.Bool.{Bool, true, false, not, cond, _||_, _&&_}
 use mathlib.Core.List.{List, [], _∷_, _++_}
 use Prim.Native.Nat.{ℕ, zero, suc, _+_, _-_, _≤_, _<_}
 use native.Mathlib.Omega.{arith}
@@ -149,6 +149,11 @@ all-at f (suc k) h x p q = go (compare x (suc k)) (both (allTo f k) (f (suc k)) 
 pub all-of : (f : ℕ → Bool) (k : ℕ) → ((x : ℕ) → 0 < x → x ≤ k → f x ≡ true) → allTo f k ≡ true
 all-of f zero h = refl
 all-of f (suc k) h = and-true (all-of f k (λ x p q. h x p (omega arith))) (h (suc k) (omega arith) (omega arith))
+
+-- Two tests that agree at each of 1 to k.
+pub all-same : (f g : ℕ → Bool) (k : ℕ) → ((x : ℕ) → 0 < x → x ≤ k → f x ≡ g x) → allTo f k ≡ allTo g k
+all-same f g zero h = refl
+all-same f g (suc k) h = let e = all-same f g k (λ x p q. h x p (omega arith)) in let l = h (suc k) (omega arith) (omega arith) in λ i. e i && l i
 
 pub all-fails : (f : ℕ → Bool) (k x : ℕ) → 0 < x → x ≤ k → f x ≡ false → allTo f k ≡ false
 all-fails f k x p q e = go (allTo f k) refl

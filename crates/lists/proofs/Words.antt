@@ -2,15 +2,15 @@
 -- From the laws of stores into lists, at the place of a node.
 use mathlib.Core.Path.{_≡_, refl, sym, ap, _∙_}
 use mathlib.Core.Logic.{_≢_}
-use mathlib.Core.Bool.{cond}
+use mathlib.Core.Bool.{Bool, true, false, cond}
 use mathlib.Core.List.{List, [], _∷_, _++_, append-assoc}
 use Prim.Native.Nat.{ℕ, zero, suc, _+_, _-_, _≤_, _<_}
 use native.Mathlib.Omega.{arith}
 use native.Mathlib.Nat.{add-zero}
-use lib.Dec.{eqb}
-use lib.ListN.{length, getD, set, take, drop, replicate, take-append-drop, length-set, length-append, length-drop, length-replicate, List·getD-append}
-use lib.Seq.{getD-at, set-set, set-comm, set-getD, getD-set-same, getD-set-other, set-append-left, set-at, take-at, drop-at, take-suc, drop-cons, append-snoc, drop-set-lt, drop-append-add, drop-append-seam, drop-drop, length-take-le}
-use borrow.Author.Tests.{ne-eqb}
+use lib.Dec.{eqb, ltb}
+use lib.ListN.{length, getD, set, take, drop, replicate, take-append-drop, length-set, length-append, length-take, length-drop, length-replicate, List·getD-append}
+use lib.Seq.{getD-at, set-set, set-comm, set-getD, getD-set-same, getD-set-other, set-append-left, set-at, set-out, take-at, drop-at, take-suc, drop-cons, append-snoc, take-set-lt, take-set-le, drop-set-lt, take-append-add, drop-append-add, drop-append-seam, drop-drop, take-nil, getD-take, length-take-le}
+use borrow.Author.Tests.{ltb-true, ltb-false, ne-eqb}
 use Rattle.lists.specs.Words.{at, put, overlay, pasted, cleared, valuesFrom, filled}
 use Rattle.lists.proofs.Tests.{Compared, equal, other, compare}
 
@@ -60,6 +60,21 @@ module _ (b : ℕ) where
   pub put-past : (k : ℕ) (area : List ℕ) (x w : ℕ) → b < x → x ≤ b + k → drop k (put b area x w) ≡ drop k area
   unfolding put
   put-past k area x w h q = drop-set-lt k area (x - suc b) w (omega arith)
+
+  -- The first k words of an area: what they are read as, and a store, which stays where it is.
+  pub at-take : (k : ℕ) (area : List ℕ) (x : ℕ) → b < x → x ≤ b + k → at b (take k area) x ≡ at b area x
+  unfolding at
+  at-take k area x h q = getD-take k area (x - suc b) 0 (omega arith)
+
+  pub take-put : (k : ℕ) (area : List ℕ) (x w : ℕ) → take k (put b area x w) ≡ put b (take k area) x w
+  unfolding put
+  take-put k area x w = go (ltb (x - suc b) k) refl
+    where
+      go : (c : Bool) → ltb (x - suc b) k ≡ c → take k (set area (x - suc b) w) ≡ set (take k area) (x - suc b) w
+      go true e = take-set-lt k area (x - suc b) w (ltb-true (x - suc b) k e)
+      go false e =
+          let h = ltb-false (x - suc b) k e in
+          take-set-le k area (x - suc b) w h ∙ sym (set-out (take k area) (x - suc b) w (omega (arith, length-take k area)))
 
 -- ---- filled areas
 length-front : (ws : List ℕ) (k : ℕ) (area : List ℕ) → length ws ≡ k → k ≤ length area → length (ws ++ drop k area) ≡ length area
@@ -143,6 +158,18 @@ at-filled f k area x h q =
 
 pub length-filled : (f : ℕ → ℕ) (k : ℕ) (area : List ℕ) → k ≤ length area → length (filled f k area) ≡ length area
 length-filled f k area h = length-front (valuesFrom f 0 k) k area (length-values f 0 k) h
+
+-- The first k + i words of an area whose first k are filled.
+drop-take : (k i : ℕ) (l : List ℕ) → drop k (take (k + i) l) ≡ take i (drop k l)
+drop-take zero i l = let e : 0 + i ≡ i = omega arith in ap (λ (j : ℕ). take j l) e
+drop-take (suc k) i [] = let e : suc k + i ≡ suc (k + i) = omega arith in ap (λ (j : ℕ). drop (suc k) (take j [])) e ∙ sym (take-nil i)
+drop-take (suc k) i (x ∷ l) = let e : suc k + i ≡ suc (k + i) = omega arith in ap (λ (j : ℕ). drop (suc k) (take j (x ∷ l))) e ∙ drop-take k i l
+
+pub take-filled : (f : ℕ → ℕ) (k i : ℕ) (area : List ℕ) → take (k + i) (filled f k area) ≡ filled f k (take (k + i) area)
+take-filled f k i area =
+    ap (λ (j : ℕ). take (j + i) (filled f k area)) (sym (length-values f 0 k))
+    ∙ take-append-add (valuesFrom f 0 k) (drop k area) i
+    ∙ ap (λ (l : List ℕ). valuesFrom f 0 k ++ l) (sym (drop-take k i area))
 
 pub values-append : (f : ℕ → ℕ) (b n m : ℕ) → valuesFrom f b (n + m) ≡ valuesFrom f b n ++ valuesFrom f (b + n) m
 values-append f b zero m = let e : zero + m ≡ m = omega arith in let z : b ≡ b + zero = omega arith in λ i. valuesFrom f (z i) (e i)

@@ -1,3 +1,4 @@
 pub mod Members
 pub mod Counts
 pub mod Words
+pub mod Rows

@@ -14,14 +14,15 @@ use Rattle.folding.specs.Calls.{acceptNumber}
 use Rattle.states.specs.declared.values.State.{State}
 use Rattle.states.specs.Answers.{configOf}
 use Rattle.panel.specs.declared.Panel.{Panel}
+use Rattle.panel.specs.declared.Accepted.{Accepted}
 use Rattle.panel.specs.declared.Counted.{Counted}
 use Rattle.panel.specs.Panel.{countedBy, acceptedOf}
-use Rattle.panel.specs.Claims.{Order, accept, shiftStart, Entry, entryOf, Kept, leftBy, starts, isShift, isCard, hasShift, sinceShift, cards, CountClaim}
+use Rattle.panel.specs.Claims.{Entry, accepting, shifting, left, EntryKept, Kept, leftBy, isShift, isCard, hasShift, sinceShift, cards, CountClaim}
 use Rattle.panel.proofs.Judged.{left-refused, left-taken}
 
 -- ---- one call
 -- The number that accepting answers.
-answer-is : (p : Panel) (s : State) → acceptedOf p s .answer .number ≡ acceptNumber (configOf s [] [] []) (p .figure)
+pub answer-is : (p : Panel) (s : State) → acceptedOf p s .answer .number ≡ acceptNumber (configOf s [] [] []) (p .figure)
 unfolding acceptedOf
 answer-is p s = go (acceptNumber (configOf s [] [] []) (p .figure))
   where
@@ -34,29 +35,23 @@ pub refused-keeps : (p : Panel) (s : State) → acceptedOf p s .answer .number �
 refused-keeps p s ne = let h = left-refused p s (answer-is p s) ne in (ap (λ (c : Counted). c .panel) h, ap (λ (c : Counted). c .answer .state) h)
 
 -- Accepting that is taken adds 1 to the figure and leaves phase 6.
-pub taken-counts : (p : Panel) (s : State) → acceptedOf p s .answer .number ≡ 0 → (acceptedOf p s .panel .figure ≡ p .figure + 1) × (acceptedOf p s .answer .state .phase ≡ accepted)
+pub taken-counts : (p : Panel) (s : State) → acceptedOf p s .answer .number ≡ 0
+    → (acceptedOf p s .panel .figure ≡ p .figure + 1) × (acceptedOf p s .answer .state .phase ≡ accepted)
 taken-counts p s z = let h = left-taken p s (answer-is p s) z in (ap (λ (c : Counted). c .panel .figure) h, ap (λ (c : Counted). c .answer .state .phase) h)
 
 -- A call that is no shift start adds the card that it is.
-adds : (p : Panel) (o : Order) → starts o ≡ false → entryOf p o .left .figure ≡ bump (isCard (entryOf p o)) (p .figure)
-adds p shiftStart h = clash h
-adds p (accept s) h = go (compare (acceptedOf p s .answer .number) 0)
+adds : (p : Panel) (x : Entry) → EntryKept p x → isShift x ≡ false → left x .figure ≡ bump (isCard x) (p .figure)
+adds p (shifting q) k h = clash h
+adds p (accepting s x q) k h = ap (λ (r : Panel). r .figure) (k .0) ∙ go (compare (acceptedOf p s .answer .number) 0) ∙ ap (λ (y : Accepted). bump (eqb (y .number) 0) (p .figure)) (sym (k .1))
   where
     go : Compared (acceptedOf p s .answer .number) 0 → acceptedOf p s .panel .figure ≡ bump (eqb (acceptedOf p s .answer .number) 0) (p .figure)
     go (equal z e) = let t = taken-counts p s z .0 in let one : acceptedOf p s .panel .figure ≡ suc (p .figure) = omega (arith, t) in one ∙ sym (ap (λ (b : Bool). bump b (p .figure)) e)
     go (other n e) = ap (λ (q : Panel). q .figure) (refused-keeps p s n .0) ∙ sym (ap (λ (b : Bool). bump b (p .figure)) e)
 
 -- A shift start leaves 0.
-clears : (p : Panel) (o : Order) → starts o ≡ true → entryOf p o .left .figure ≡ 0
-clears p shiftStart h = refl
-clears p (accept s) h = clash (sym h)
-
--- The same two of an entry whose promise is kept.
-entry-adds : (p : Panel) (x : Entry) → x ≡ entryOf p (x .order) → isShift x ≡ false → x .left .figure ≡ bump (isCard x) (p .figure)
-entry-adds p x e h = ap (λ (y : Entry). y .left .figure) e ∙ (adds p (x .order) h ∙ sym (ap (λ (y : Entry). bump (isCard y) (p .figure)) e))
-
-entry-clears : (p : Panel) (x : Entry) → x ≡ entryOf p (x .order) → isShift x ≡ true → x .left .figure ≡ 0
-entry-clears p x e h = ap (λ (y : Entry). y .left .figure) e ∙ clears p (x .order) h
+clears : (p : Panel) (x : Entry) → EntryKept p x → isShift x ≡ true → left x .figure ≡ 0
+clears p (shifting q) k h = ap (λ (r : Panel). r .figure) k
+clears p (accepting s x q) k h = clash (sym h)
 
 -- ---- a log
 -- A card may be counted on either side.
@@ -69,7 +64,7 @@ pub grows : (p : Panel) (log : List Entry) → Kept p log → hasShift log ≡ f
 grows p [] k h = omega arith
 grows p (x ∷ xs) k h =
     let n = neither (isShift x) (hasShift xs) h in
-    grows (x .left) xs (k .1) (n .1) ∙ (ap (λ (j : ℕ). j + cards xs) (entry-adds p x (k .0) (n .0)) ∙ bump-plus (isCard x) (p .figure) (cards xs))
+    grows (left x) xs (k .1) (n .1) ∙ (ap (λ (j : ℕ). j + cards xs) (adds p x (k .0) (n .0)) ∙ bump-plus (isCard x) (p .figure) (cards xs))
 
 -- Then every call is behind the last shift start.
 all-since : (log : List Entry) → hasShift log ≡ false → sinceShift log ≡ log
@@ -79,15 +74,15 @@ all-since (x ∷ xs) h = let n = neither (isShift x) (hasShift xs) h in simp (n 
 -- With one the figure does not depend on the record at first.
 pub forgets : (p : Panel) (log : List Entry) → Kept p log → hasShift log ≡ true → leftBy p log .figure ≡ cards (sinceShift log)
 forgets p [] k h = clash (sym h)
-forgets p (x ∷ xs) k h = go (hasShift xs) refl (forgets (x .left) xs (k .1))
+forgets p (x ∷ xs) k h = go (hasShift xs) refl (forgets (left x) xs (k .1))
   where
-    go : (b : Bool) → hasShift xs ≡ b → (hasShift xs ≡ true → leftBy (x .left) xs .figure ≡ cards (sinceShift xs)) → leftBy (x .left) xs .figure ≡ cards (sinceShift (x ∷ xs))
+    go : (b : Bool) → hasShift xs ≡ b → (hasShift xs ≡ true → leftBy (left x) xs .figure ≡ cards (sinceShift xs)) → leftBy (left x) xs .figure ≡ cards (sinceShift (x ∷ xs))
     go true e rest = simp e (rest e)
     go false e rest =
         let last : isShift x ≡ true = sym (or-none (isShift x)) ∙ (ap (λ (b : Bool). isShift x || b) (sym e) ∙ h) in
-        let z = entry-clears p x (k .0) last in
-        let f : x .left .figure + cards xs ≡ cards xs = omega (arith, z) in
-        simp (e, last) (grows (x .left) xs (k .1) e ∙ f)
+        let z = clears p x (k .0) last in
+        let f : left x .figure + cards xs ≡ cards xs = omega (arith, z) in
+        simp (e, last) (grows (left x) xs (k .1) e ∙ f)
 
 -- On a new record, and on any record once a shift was started.
 pub counts : CountClaim

@@ -1,5 +1,6 @@
 -- Demand 2 of the panel, as a type; proofs/Counts has the theorem. A log is a list of calls on one record, refused ones included, each with
--- what its caller saw; nobody else writes the record meanwhile.
+-- what its caller saw; nobody else writes the record meanwhile. What is seen of a call is what its contract promises: `AcceptPromise`,
+-- `ShiftPromise`.
 use mathlib.Core.Path.{_≡_}
 use mathlib.Core.Logic.{_⊎_}
 use mathlib.Core.Bool.{Bool, true, false, cond, _||_}
@@ -9,47 +10,44 @@ use lib.Dec.{eqb}
 use Rattle.lists.specs.Counts.{bump}
 use Rattle.states.specs.declared.values.State.{State}
 use Rattle.panel.specs.declared.Panel.{Panel}
-use Rattle.panel.specs.Panel.{newPanel, acceptedOf, shiftedOf}
+use Rattle.panel.specs.declared.Accepted.{Accepted}
+use Rattle.panel.specs.Panel.{newPanel, AcceptPromise, ShiftPromise}
 
--- A call of the panel.
-pub data Order : Type 0 where
-  accept : State → Order
-  shiftStart : Order
+-- Accepting a state, with its answer and the record it left; a shift start, with the record it left.
+pub data Entry : Type 0 where
+  accepting : State → Accepted → Panel → Entry
+  shifting : Panel → Entry
 
--- A call, the number it answered (0: taken) and the record it left.
-pub record Entry : Type 0 where
-  pub order : Order
-  pub number : ℕ
-  pub left : Panel
+-- The record that a call left.
+abbrev pub left : Entry → Panel
+left (accepting s x q) = q
+left (shifting q) = q
 
--- What the promises say of a call.
-abbrev pub entryOf : Panel → Order → Entry
-entryOf p (accept s) = record { order = accept s; number = acceptedOf p s .answer .number; left = acceptedOf p s .panel }
-entryOf p shiftStart = record { order = shiftStart; number = 0; left = shiftedOf p }
+-- Its promise is kept, on this record.
+abbrev pub EntryKept : Panel → Entry → Type 0
+EntryKept p (accepting s x q) = AcceptPromise p s x q
+EntryKept p (shifting q) = ShiftPromise p q
 
 -- Every promise is kept, each call on the record that the one before it left.
 abbrev pub Kept : Panel → List Entry → Type 0
 Kept p [] = Unit {0}
-Kept p (x ∷ xs) = (x ≡ entryOf p (x .order)) × Kept (x .left) xs
+Kept p (x ∷ xs) = EntryKept p x × Kept (left x) xs
 
 -- The record that a log leaves.
 abbrev pub leftBy : Panel → List Entry → Panel
 leftBy p [] = p
-leftBy p (x ∷ xs) = leftBy (x .left) xs
+leftBy p (x ∷ xs) = leftBy (left x) xs
 
 -- ---- counting
--- A call that starts a shift.
-abbrev pub starts : Order → Bool
-starts (accept s) = false
-starts shiftStart = true
-
--- A shift start in a log.
+-- A shift start.
 abbrev pub isShift : Entry → Bool
-isShift x = starts (x .order)
+isShift (accepting s x q) = false
+isShift (shifting q) = true
 
 -- A card: accepting that was taken.
 abbrev pub isCard : Entry → Bool
-isCard x = cond (isShift x) false (eqb (x .number) 0)
+isCard (accepting s x q) = eqb (x .number) 0
+isCard (shifting q) = false
 
 -- There is a shift start in the log.
 abbrev pub hasShift : List Entry → Bool
@@ -66,6 +64,10 @@ abbrev pub cards : List Entry → ℕ
 cards [] = 0
 cards (x ∷ xs) = bump (isCard x) (cards xs)
 
+-- A record that is new, or has had a shift start.
+abbrev pub Counting : Panel → List Entry → Type 0
+Counting p log = (p ≡ newPanel) ⊎ (hasShift log ≡ true)
+
 -- The figure is the number of cards accepted since the last shift start: on a new record, and on any record once a shift was started.
 abbrev pub CountClaim : Type 0
-CountClaim = (p : Panel) (log : List Entry) → Kept p log → (p ≡ newPanel) ⊎ (hasShift log ≡ true) → leftBy p log .figure ≡ cards (sinceShift log)
+CountClaim = (p : Panel) (log : List Entry) → Kept p log → Counting p log → leftBy p log .figure ≡ cards (sinceShift log)

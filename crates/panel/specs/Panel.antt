@@ -1,4 +1,5 @@
 -- The panel (document 01, "The panel"): a new record, accepting a state, a shift start.
+use mathlib.Core.Path.{_≡_}
 use mathlib.Core.List.{[]}
 use Prim.Native.Nat.{ℕ, zero, suc}
 use Rattle.folding.specs.Machine.{accepted}
@@ -6,6 +7,7 @@ use Rattle.folding.specs.Calls.{acceptNumber}
 use Rattle.states.specs.declared.values.State.{State}
 use Rattle.states.specs.Answers.{configOf}
 use Rattle.panel.specs.declared.Panel.{Panel}
+use Rattle.panel.specs.declared.Accepted.{Accepted}
 use Rattle.panel.specs.declared.Counted.{Counted}
 use Rattle.panel.specs.declared.ShiftEnded.{ShiftEnded}
 
@@ -30,9 +32,31 @@ countedBy (suc k) p s = record { panel = p; answer = record { number = suc k; st
 unfoldable pub acceptedOf : Panel → State → Counted
 acceptedOf p s = countedBy (acceptNumber (configOf s [] [] []) (p .figure)) p s
 
+-- What `accept` promises: its answer x, and the record q that it leaves, are those of accepting s on the record p.
+abbrev pub AcceptPromise : Panel → State → Accepted → Panel → Type 0
+AcceptPromise p s x q = (q ≡ acceptedOf p s .panel) × (x ≡ acceptedOf p s .answer)
+
+-- What `shift_start` promises of the record that it leaves.
+abbrev pub ShiftPromise : Panel → Panel → Type 0
+ShiftPromise p q = q ≡ shiftedOf p
+
+-- The figure with which the next shift begins: 0; where accepting is refused, no shift ends, and the figure is as it was.
+abbrev pub freshAfter : ℕ → ℕ → ℕ
+freshAfter zero figure = 0
+freshAfter (suc k) figure = figure
+
 -- The last card of a shift, on a record with this figure: the answer, the figure of the shift that ends, and that of the next one.
 abbrev pub shiftEnded : ℕ → State → ShiftEnded
 shiftEnded figure s = record {
+  answer = acceptedOf (record { figure = figure }) s .answer;
+  figure = acceptedOf (record { figure = figure }) s .panel .figure;
+  fresh = freshAfter (acceptedOf (record { figure = figure }) s .answer .number) figure;
+}
+
+-- ---- inside
+-- Accepting, and then a shift start, whatever was answered.
+abbrev pub shiftClosed : ℕ → State → ShiftEnded
+shiftClosed figure s = record {
   answer = acceptedOf (record { figure = figure }) s .answer;
   figure = acceptedOf (record { figure = figure }) s .panel .figure;
   fresh = shiftedOf (acceptedOf (record { figure = figure }) s .panel) .figure;

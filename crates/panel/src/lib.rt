@@ -8,7 +8,7 @@ ghost use mathlib.Core.Path.{_≡_};
 ghost use mathlib.Core.List.{[]};
 ghost use Rattle.folding.specs.Calls.{acceptNumber};
 ghost use Rattle.states.specs.Answers.{configOf};
-ghost use Rattle.panel.specs.Panel.{newPanel, acceptedOf, shiftedOf, shiftEnded};
+ghost use Rattle.panel.specs.Panel.{newPanel, acceptedOf, shiftedOf, AcceptPromise, ShiftPromise, shiftEnded, shiftClosed};
 
 // How many cards were accepted since the last shift start.
 pub struct Panel {
@@ -102,7 +102,7 @@ pub fn shifted(p: Panel) -> Panel
 
 // Accepts a state: refused by 1, 2, 4, 8, 9, 10, 11, and then neither state nor figure changes. It is lent no links, marks or events.
 pub fn accept(p: &mut Panel, s: State) -> Accepted
-    ensures { λ r. ⌜ (now (p .exit) ≡ acceptedOf (now (p .entry)) s .panel) × (r ≡ acceptedOf (now (p .entry)) s .answer) ⌝ }
+    ensures { λ r. ⌜ AcceptPromise (now (p .entry)) s r (now (p .exit)) ⌝ }
 {
     let t = count_card(*p, s);
     *p = t.panel;
@@ -111,14 +111,14 @@ pub fn accept(p: &mut Panel, s: State) -> Accepted
 
 // Starts a shift; it is never refused.
 pub fn shift_start(p: &mut Panel)
-    ensures { λ _. ⌜ now (p .exit) ≡ shiftedOf (now (p .entry)) ⌝ }
+    ensures { λ _. ⌜ ShiftPromise (now (p .entry)) (now (p .exit)) ⌝ }
 {
     *p = shifted(*p);
 }
 
-// The last card of a shift: accepts a state on a record with this figure, reads the figure off and starts the next shift.
-pub fn end_shift(figure: u32, s: State) -> ShiftEnded
-    ensures { λ r. ⌜ r ≡ shiftEnded figure s ⌝ }
+// Accepts a state on a record with this figure, reads the figure off and starts the next shift, whatever was answered.
+fn close_shift(figure: u32, s: State) -> ShiftEnded
+    ensures { λ r. ⌜ r ≡ shiftClosed figure s ⌝ }
 {
     let mut p = Panel { figure: figure };
     let a = accept(&mut p, s);
@@ -128,5 +128,22 @@ pub fn end_shift(figure: u32, s: State) -> ShiftEnded
         answer: a,
         figure: total,
         fresh: p.figure,
+    }
+}
+
+// The last card of a shift: accepts a state on a record with this figure, reads the figure off and starts the next shift. Refused by 1, 2, 4,
+// 8, 9, 10, 11: then no shift ends, and the figure is given back as it was.
+pub fn end_shift(figure: u32, s: State) -> ShiftEnded
+    ensures { λ r. ⌜ r ≡ shiftEnded figure s ⌝ }
+{
+    let t = close_shift(figure, s);
+    let a = t.answer;
+    if a.number == 0 {
+        return t;
+    }
+    ShiftEnded {
+        answer: a,
+        figure: figure,
+        fresh: figure,
     }
 }

@@ -1,7 +1,7 @@
 -- What a controller sees of the calls: a state is nine words, an answer is a number.
 use mathlib.Core.Bool.{cond}
 use mathlib.Core.List.{List, [], _∷_, _++_}
-use Prim.Native.Nat.{ℕ, _+_}
+use Prim.Native.Nat.{ℕ, zero, suc, _+_}
 use lib.Dec.{leb}
 use lib.ListN.{length, getD}
 use Rattle.lists.specs.Words.{overlay}
@@ -17,6 +17,7 @@ use Rattle.states.specs.declared.values.State.{State}
 use Rattle.states.specs.Answers.{configOf}
 use Rattle.panel.specs.declared.Counted.{Counted}
 use Rattle.panel.specs.Panel.{countedBy, acceptedOf}
+use Rattle.report.specs.Report.{Told}
 
 -- ---- a state in nine words: n, m, start, v, e, f, phase, next, circular
 abbrev pub stateIn : List ℕ → State
@@ -59,6 +60,16 @@ sized number n m start = record { number = number; n = n; m = m; start = start }
 abbrev pub handedSizes : Reading → (n m start : ℕ) → Sizes
 handedSizes (loading.refused k) n m start = sized k n m start
 handedSizes (loading.loaded p) n m start = sized 0 (p .n) (p .m) (p .start)
+
+-- ---- walking a text and printing a refusal: how many bytes are printed is one lent word
+-- A word that a call taken stores, and a refused one leaves.
+abbrev pub wordUnless : ℕ → (new old : ℕ) → ℕ
+wordUnless zero new old = new
+wordUnless (suc k) new old = old
+
+-- What is reported of a text, where that word held `printed`.
+abbrev pub toldIn : ℕ → Told → Told
+toldIn printed t = record { number = t .number; bytes = wordUnless (t .number) (t .bytes) printed; output = t .output; after = t .after; tail = t .tail; marks = t .marks; events = t .events }
 
 -- ---- the tally of a walk is seven lent words
 -- The number of a walk over the array form.

@@ -13,6 +13,7 @@ pub use cards::profile_walker_accept;
 pub use cards::profile_walker_shift_start;
 pub use profiles::profile_walker_check_image;
 pub use profiles::profile_walker_read_profile;
+pub use profiles::profile_walker_refusal_line;
 pub use profiles::profile_walker_to_array;
 pub use profiles::profile_walker_walk_text;
 pub use searches::profile_walker_bfs_folded;

@@ -1,4 +1,5 @@
-// Profiles: an image checked, a text read, an image converted, a text walked.
+// Profiles: an image checked, a text read, an image converted, a text walked, a refusal printed.
+use report::refusal_line;
 use report::walk_text;
 use texts::Profile;
 use texts::read_profile;
@@ -10,8 +11,8 @@ ghost use Rattle.graphs.specs.Refusals.{imageNumber, unlessRefused};
 ghost use Rattle.images.specs.Checking.{image};
 ghost use Rattle.arrays.specs.Arrays.{convertNumber};
 ghost use Rattle.texts.specs.Loading.{reading, afterLeft, tailLeft};
-ghost use Rattle.report.specs.Report.{reportOf, told};
-ghost use Rattle.profile_walker.specs.Handed.{sized, handedSizes};
+ghost use Rattle.report.specs.Report.{reportOf, told, lineNumber, lineBytes, lineLeft};
+ghost use Rattle.profile_walker.specs.Handed.{sized, handedSizes, wordUnless, toldIn};
 
 // `images::check_image`.
 #[no_mangle]
@@ -69,7 +70,7 @@ pub extern "C" fn profile_walker_to_array(
     arrays::to_array(n, m, after, tail, firsts, tails, numbers)
 }
 
-// `report::walk_text`: how many bytes are printed is stored in a lent word, of a refusal too.
+// `report::walk_text`: how many bytes are printed is stored in a lent word, where the text is walked.
 #[no_mangle]
 pub extern "C" fn profile_walker_walk_text(
     text: &[u8],
@@ -80,9 +81,33 @@ pub extern "C" fn profile_walker_walk_text(
     output: &mut [u8],
     printed: &mut usize,
 ) -> u16
-    ensures { λ r. ⌜ told (record { number = r; bytes = now (printed .exit) }) (now (after .exit)) (now (tail .exit)) (now (marks .exit)) (now (events .exit)) (now (output .exit)) ≡ reportOf (now (text .entry)) (now (after .entry)) (now (tail .entry)) (now (marks .entry)) (now (events .entry)) (now (output .entry)) ⌝ }
+    ensures { λ r. ⌜ told (record { number = r; bytes = now (printed .exit) }) (now (after .exit)) (now (tail .exit)) (now (marks .exit)) (now (events .exit)) (now (output .exit)) ≡ toldIn (now (printed .entry)) (reportOf (now (text .entry)) (now (after .entry)) (now (tail .entry)) (now (marks .entry)) (now (events .entry)) (now (output .entry))) ⌝ }
 {
     let r = walk_text(text, after, tail, marks, events, output);
+    let k = r.number;
+    if k != 0 {
+        return k;
+    }
     *printed = r.bytes;
-    r.number
+    0
+}
+
+// `report::refusal_line`: how many bytes are printed is stored in a lent word, where there is room for the line.
+#[no_mangle]
+pub extern "C" fn profile_walker_refusal_line(
+    number: u16,
+    output: &mut [u8],
+    printed: &mut usize,
+) -> u16
+    ensures number { λ r. ⌜ r ≡ lineNumber number (now (output .entry)) ⌝ }
+    ensures printed { λ r. ⌜ now (printed .exit) ≡ wordUnless r (lineBytes number (now (output .entry))) (now (printed .entry)) ⌝ }
+    ensures output { λ r. ⌜ now (output .exit) ≡ lineLeft number (now (output .entry)) ⌝ }
+{
+    let l = refusal_line(number, output);
+    let k = l.number;
+    if k != 0 {
+        return k;
+    }
+    *printed = l.bytes;
+    0
 }

@@ -1,4 +1,4 @@
--- Document 01's printed example and document 02's shared file: by computation, numbers from the claim of what is written.
+-- Document 01's printed examples and document 02's shared file: by computation, numbers from the claim of what is written.
 use mathlib.Core.Path.{_≡_, refl, ap, _∙_}
 use mathlib.Core.Bool.{true}
 use mathlib.Core.List.{List, [], _∷_, _++_}
@@ -9,13 +9,14 @@ use lib.Dec.{ltb}
 use borrow.Author.Tests.{ltb-true}
 use Rattle.lists.specs.Words.{at}
 use Rattle.texts.specs.Text.{listingOf, headAt, linesAt, lineAt, fieldAt}
+use Rattle.texts.specs.Loading.{linesOut}
 use Rattle.numbers.specs.Decimal.{numberAt, written}
 use Rattle.numbers.specs.Padding.{unpad}
 use Rattle.numbers.proofs.Numbers.{writing-claim}
 use Rattle.graphs.specs.Search.{depthFirst, search, walkEdges}
-use Rattle.report.specs.Printed.{walkPrinted}
-use Rattle.report.specs.Report.{graphFrom}
-use Rattle.report.specs.Example.{exampleText, paddedText, examplePrinted, example, ExampleClaim, sharedText, sharedPrinted, shared, SharedFileClaim}
+use Rattle.report.specs.Printed.{walkPrinted, refusalPrinted}
+use Rattle.report.specs.Report.{graphFrom, walkReading}
+use Rattle.report.specs.Example.{exampleText, paddedText, examplePrinted, example, refusedSix, ExampleClaim, sharedText, sharedPrinted, shared, SharedFileClaim}
 
 says : listingOf exampleText ≡ some example
 unfolding listingOf headAt linesAt lineAt fieldAt numberAt
@@ -40,9 +41,21 @@ prints : walkPrinted (graphFrom example) (example .start) ≡ examplePrinted
 unfolding walkPrinted depthFirst search walkEdges at
 prints = rw (digit 0 refl, digit 1 refl, digit 2 refl, digit 3 refl, digit 4 refl, digit 5 refl, digit 6 refl, digit 7 refl, eleven)
 
+refuses : refusalPrinted 6 ≡ refusedSix
+unfolding refusalPrinted
+refuses = rw (digit 6 refl)
+
 -- The printed example.
 pub printed-example : ExampleClaim
-printed-example = record { says = says; padded-says = padded-says; one-text = one-text; prints = prints }
+unfolding listingOf headAt linesAt lineAt fieldAt numberAt linesOut walkReading
+printed-example = record {
+  says = says;
+  padded-says = padded-says;
+  one-text = one-text;
+  prints = prints;
+  refuses = refuses;
+  in-order = refl;
+}
 
 -- ---- the shared file
 shared-says : listingOf sharedText ≡ some shared

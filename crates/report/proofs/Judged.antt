@@ -4,7 +4,7 @@ use mathlib.Core.Path.{_≡_, refl, sym, ap, _∙_}
 use mathlib.Core.Bool.{Bool, true, false, cond, not, _||_}
 use mathlib.Core.List.{List, [], _∷_, _++_}
 use mathlib.Core.Option.{Option, none, some}
-use Prim.Native.Nat.{ℕ, _+_, _≤_}
+use Prim.Native.Nat.{ℕ, suc, _+_, _≤_}
 use native.Mathlib.Omega.{arith}
 use lib.Dec.{eqb, ltb}
 use lib.ListN.{length}
@@ -17,8 +17,8 @@ use Rattle.texts.specs.Text.{Listing, listingOf}
 use Rattle.texts.specs.Loading.{Reading, refused, loaded, decided, judged, reading, linesOut, listingNumber, afterLeft, tailLeft}
 use Rattle.texts.specs.Answers.{Answer, refusedWith, sizes, answerTo}
 use Rattle.texts.proofs.Loads.{loaded-fits}
-use Rattle.report.specs.declared.text.Report.{Report}
 use Rattle.report.specs.Report.{lentAreas, judgedWith, walkReading, numberTo, reported, reportOf, told}
+use Rattle.report.specs.Claims.{UnchangedClaim}
 
 -- ---- the areas
 -- The five areas are as long as stated.
@@ -145,22 +145,35 @@ module _ (text after tail marks events output : List ℕ) {is-long : Bool} (e : 
   areas = lentAreas after tail marks events output
 
   -- The answer is that of a refusal, with the links as they were.
-  refusal : (k : ℕ) (r : Report) (after′ tail′ output′ : List ℕ) → walkReading areas text ≡ refused k → after′ ≡ after → tail′ ≡ tail
-      → told r after′ tail′ marks events output′ ≡ reported (refused k) after′ tail′ marks events output → told r after′ tail′ marks events output′ ≡ reportOf text after tail marks events output
+  abbrev Unchanged : ℕ → (after′ tail′ : List ℕ) → Type 0
+  Unchanged k after′ tail′ = told (record { number = k; bytes = 0 }) after′ tail′ marks events output ≡ reportOf text after tail marks events output
+
+  refusal : (k : ℕ) (after′ tail′ : List ℕ) → walkReading areas text ≡ refused k → after′ ≡ after → tail′ ≡ tail → Unchanged k after′ tail′
   unfolding reportOf
-  refusal k r after′ tail′ output′ w a t h = h ∙ (λ i. reported (sym w i) (a i) (t i) marks events output)
+  refusal k after′ tail′ w a t = λ i. reported (sym w i) (a i) (t i) marks events output
 
   -- Where an area is short.
-  pub short-reported : (k : ℕ) (r : Report) (after′ tail′ output′ : List ℕ) → not is-long ≡ true → ((others : List Lent) → short others ≡ true → k ≡ numberTo (walkReading others text)) → after′ ≡ after → tail′ ≡ tail
-      → told r after′ tail′ marks events output′ ≡ reported (refused k) after′ tail′ marks events output → told r after′ tail′ marks events output′ ≡ reportOf text after tail marks events output
-  short-reported k r after′ tail′ output′ h number a t =
+  pub short-reported : (k : ℕ) (after′ tail′ : List ℕ) → not is-long ≡ true → ((others : List Lent) → short others ≡ true → k ≡ numberTo (walkReading others text))
+      → after′ ≡ after → tail′ ≡ tail → Unchanged k after′ tail′
+  short-reported k after′ tail′ h number a t =
       let s = own-short areas e h in
       let w = reading-short text areas s in
-      refusal k r after′ tail′ output′ (sym w ∙ short-refused text ∙ ap (λ (x : Reading). refused (numberTo x)) w ∙ ap refused (sym (number areas s))) a t
+      refusal k after′ tail′ (sym w ∙ short-refused text ∙ ap (λ (x : Reading). refused (numberTo x)) w ∙ ap refused (sym (number areas s))) a t
 
   -- Where the areas are as long as stated.
-  pub long-reported : (k : ℕ) (r : Report) (after′ tail′ output′ : List ℕ) → not is-long ≡ false → refusedWith k ≡ answerTo (reading text after tail) → after′ ≡ afterLeft (reading text after tail) after → tail′ ≡ tailLeft (reading text after tail) tail
-      → told r after′ tail′ marks events output′ ≡ reported (refused k) after′ tail′ marks events output → told r after′ tail′ marks events output′ ≡ reportOf text after tail marks events output
-  long-reported k r after′ tail′ output′ h q a t =
+  pub long-reported : (k : ℕ) (after′ tail′ : List ℕ) → not is-long ≡ false → refusedWith k ≡ answerTo (reading text after tail)
+      → after′ ≡ afterLeft (reading text after tail) after → tail′ ≡ tailLeft (reading text after tail) tail → Unchanged k after′ tail′
+  long-reported k after′ tail′ h q a t =
       let x = said-refused (reading text after tail) k q in
-      refusal k r after′ tail′ output′ (sym (reading-long text after tail marks events output (own-long areas e h)) ∙ x) (a ∙ ap (λ (y : Reading). afterLeft y after) x) (t ∙ ap (λ (y : Reading). tailLeft y tail) x)
+      let w = reading-long text after tail marks events output (own-long areas e h) in
+      refusal k after′ tail′ (sym w ∙ x) (a ∙ ap (λ (y : Reading). afterLeft y after) x) (t ∙ ap (λ (y : Reading). tailLeft y tail) x)
+
+-- So it is of every text that is refused.
+pub unchanged : UnchangedClaim
+unfolding reportOf
+unchanged text after tail marks events output k e = go (walkReading (lentAreas after tail marks events output) text) e
+  where
+    go : (x : Reading) → reported x after tail marks events output .number ≡ suc k
+        → reported x after tail marks events output ≡ told (record { number = suc k; bytes = 0 }) after tail marks events output
+    go (refused j) q = λ i. told (record { number = q i; bytes = 0 }) after tail marks events output
+    go (loaded p) q = absurd (omega (arith, q))

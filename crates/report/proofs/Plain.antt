@@ -1,18 +1,14 @@
--- What is printed has no padding, of any text on any areas.
+-- What is printed has no padding, of any text on any areas, and of any number.
 -- Its lines are names and rows of numbers, and no number is written with padding.
 use mathlib.Core.Path.{_≡_, refl, sym, ap, _∙_}
-use mathlib.Core.Bool.{Bool, true, false, cond}
+use mathlib.Core.Bool.{false}
 use mathlib.Core.List.{List, [], _∷_, _++_, reverse, append-assoc, append-nil}
-use Prim.Native.Nat.{ℕ, _+_}
-use native.Mathlib.Omega.{arith}
-use lib.ListN.{length, take, drop}
+use Prim.Native.Nat.{ℕ}
+use lib.ListN.{length, drop}
 use lib.Seq.{take-append-seam}
-use Rattle.lists.specs.Words.{pasted}
-use Rattle.lists.proofs.Words.{pasted-front}
 use Rattle.graphs.specs.Graph.{Graph}
 use Rattle.graphs.specs.Events.{Event, event, code, History}
 use Rattle.graphs.specs.Search.{depthFirst}
-use Rattle.numbers.specs.Decimal.{room, putAt, pastAt}
 use Rattle.numbers.specs.Padding.{hasPadding}
 use Rattle.numbers.proofs.Padding.{padding-claim}
 use Rattle.texts.specs.Text.{row}
@@ -48,22 +44,13 @@ refusal-plain : (k : ℕ) → hasPadding (refusalPrinted k) ≡ false
 unfolding refusalPrinted
 refusal-plain k = names-plain refusedName (row (k ∷ [])) refl ∙ last-plain (k ∷ [])
 
--- Bytes put where there is room for them are printed; else nothing is.
-put-plain : (bytes output : List ℕ) → hasPadding bytes ≡ false → hasPadding (take (pastAt bytes 0 output) (putAt bytes 0 output)) ≡ false
-unfolding putAt pastAt
-put-plain bytes output plain = go (room bytes 0 output)
-  where
-    go : (b : Bool) → hasPadding (take (cond b (0 + length bytes) 0) (cond b (pasted 0 bytes output) output)) ≡ false
-    go true = let n : 0 + length bytes ≡ length bytes = omega arith in ap hasPadding ((λ i. take (n i) (pasted-front bytes output i)) ∙ take-append-seam bytes (drop (length bytes) output)) ∙ plain
-    go false = padding-claim .nothing
-
 -- ---- any text
 pub print-plain : PlainClaim
 unfolding reportOf
-print-plain text after tail marks events output = go (walkReading (lentAreas after tail marks events output) text)
+print-plain = record { walks = λ text after tail marks events output. go (walkReading (lentAreas after tail marks events output) text) after tail marks events output; refusals = refusal-plain }
   where
-    go : (x : Reading) → hasPadding (printed (reported x after tail marks events output)) ≡ false
-    go (refused k) = put-plain (refusalPrinted k) output (refusal-plain k)
-    go (loaded p) =
+    go : (x : Reading) (after tail marks events output : List ℕ) → hasPadding (printed (reported x after tail marks events output)) ≡ false
+    go (refused k) after tail marks events output = padding-claim .nothing
+    go (loaded p) after tail marks events output =
         let ws = walkPrinted (graphFrom p) (p .start) in
         ap hasPadding (take-append-seam ws (drop (length ws) output)) ∙ walk-plain (graphFrom p) (p .start)

@@ -6,28 +6,25 @@ use native.Mathlib.Omega.{arith}
 use native.Mathlib.Nat.{add-zero}
 use lib.ListN.{length, getD, set, take, drop, replicate, length-append, length-replicate}
 use lib.Seq.{length-take-le, take-suc, take-all, take-append-seam, append-snoc}
-use borrow.Author.Tests.{le-leb, lt-leb}
+use borrow.Author.Tests.{le-leb, lt-ltb, le-ltb}
 use Rattle.lists.specs.Words.{overlay, pasted}
 use Rattle.lists.proofs.Words.{pasted-front, pasted-none, pasted-next, pasted-pasted, length-pasted}
 use Rattle.graphs.specs.Events.{Event, event, code, words}
+use Rattle.graphs.specs.Refusals.{refuse, firstOf, unlessRefused, lent, short}
 use Rattle.numbers.specs.Decimal.{written, putAt, pastAt}
 use Rattle.numbers.proofs.Numbers.{number-claim}
 use Rattle.numbers.proofs.NumberLoops.{Put}
 use Rattle.texts.specs.Text.{comma, lineFeed, row}
 use Rattle.report.specs.declared.walk.Totals.{Totals}
 use Rattle.report.specs.Printed.{eventNames, totalNames, refusedName, eventRows, refusalPrinted}
+use Rattle.report.specs.Claims.{LineClaim}
 use Rattle.report.specs.Inside.{rows, printedFrom}
 
 -- ---- room
 -- Where there is room, the bytes are put.
-pub printed-room : (bytes : List ℕ) (at : ℕ) (area : List ℕ) → at + length bytes ≤ length area → (pastAt bytes at area ≡ at + length bytes) × (putAt bytes at area ≡ pasted at bytes area)
+printed-room : (bytes : List ℕ) (at : ℕ) (area : List ℕ) → at + length bytes ≤ length area → (pastAt bytes at area ≡ at + length bytes) × (putAt bytes at area ≡ pasted at bytes area)
 unfolding putAt pastAt
 printed-room bytes at area h = rw (le-leb (at + length bytes) (length area) h) (refl, refl)
-
--- Where there is none, nothing is.
-pub printed-none : (bytes : List ℕ) (at : ℕ) (area : List ℕ) → length area < at + length bytes → (pastAt bytes at area ≡ at) × (putAt bytes at area ≡ area)
-unfolding putAt pastAt
-printed-none bytes at area h = rw (lt-leb (at + length bytes) (length area) h) (refl, refl)
 
 -- ---- lines of events
 -- The lines of words, from their events.
@@ -228,17 +225,49 @@ line-made k stop p q s t A B =
 pub made-size : {bytes : List ℕ} {q : ℕ} {area : List ℕ} → Made bytes q area → q ≡ length (take q area)
 made-size M = M .long ∙ sym (ap length (M .line))
 
--- The line of refusal k.
+-- What a call that prints a line answers, and the area that it leaves.
+abbrev numberOf : (line output : List ℕ) → ℕ
+numberOf line output = firstOf (refuse 3 (short (lent (length line) output ∷ [])) ∷ [])
+
+abbrev pub LinePut : (line : List ℕ) (number bytes : ℕ) (output left : List ℕ) → Type 0
+LinePut line number bytes output left =
+    let k = numberOf line output in (number ≡ k) × ((bytes ≡ length (unlessRefused k line [])) × (left ≡ unlessRefused k (overlay line output) output))
+
+-- There is no room for it.
+line-none : (line output : List ℕ) → length output < length line → LinePut line 3 0 output output
+line-none line output h = rw (lt-ltb (length output) (length line) h) (refl, (refl, refl))
+
+-- There is room.
+line-put : (line output : List ℕ) → length line ≤ length output → LinePut line 0 (length line) output (overlay line output)
+line-put line output h = rw (le-ltb (length output) (length line) h) (refl, (refl, refl))
+
+-- The line of a refusal is the name, the number and a line feed.
+line-is : (k : ℕ) → refusedName ++ field k lineFeed ≡ refusalPrinted k
+unfolding refusalPrinted
+line-is k = refl
+
 module _ (k q : ℕ) (area : List ℕ) (M : Made (refusedName ++ field k lineFeed) q area) (output : List ℕ) where
+  -- Its length.
+  made-long : q ≡ length (refusalPrinted k)
+  made-long = M .long ∙ ap length (line-is k)
+
   -- There is no room for it.
-  pub refusal-none : length output < q → (0 ≡ pastAt (refusalPrinted k) 0 output) × (output ≡ putAt (refusalPrinted k) 0 output)
-  unfolding refusalPrinted
-  refusal-none h = let l = M .long in let r = printed-none (refusalPrinted k) 0 output (omega arith) in (sym (r .0), sym (r .1))
+  pub refusal-none : length output < q → LinePut (refusalPrinted k) 3 0 output output
+  refusal-none h = let l = made-long in line-none (refusalPrinted k) output (omega arith)
 
   -- It is copied.
-  pub refusal-copied : q ≤ length output → (next : ℕ) (out : List ℕ) → Wrote 0 output (take q area) next out → (next ≡ pastAt (refusalPrinted k) 0 output) × (out ≡ putAt (refusalPrinted k) 0 output)
-  unfolding refusalPrinted
+  pub refusal-copied : q ≤ length output → (next : ℕ) (out : List ℕ) → Wrote 0 output (take q area) next out → LinePut (refusalPrinted k) 0 next output out
   refusal-copied h next out W =
-      let l = M .long in
-      let r = printed-room (refusalPrinted k) 0 output (omega arith) in
-      (W .0 ∙ ap (λ (w : List ℕ). 0 + length w) (M .line) ∙ sym (r .0), W .1 ∙ ap (λ (w : List ℕ). pasted 0 w output) (M .line) ∙ sym (r .1))
+      let l = made-long in
+      let line = M .line ∙ line-is k in
+      let e : next ≡ length (refusalPrinted k) = omega (arith, W .0, ap length line) in
+      let f : out ≡ overlay (refusalPrinted k) output = W .1 ∙ ap (λ (w : List ℕ). pasted 0 w output) line ∙ pasted-front (refusalPrinted k) output in
+      let P = line-put (refusalPrinted k) output (omega arith) in
+      (P .0, (e ∙ P .1 .0, f ∙ P .1 .1))
+
+-- Fourteen bytes have room for the line of any number.
+pub line-room : LineClaim
+line-room k output fits h =
+    let l = ap length (line-is k) in
+    let few = number-claim .size k fits .1 in
+    sym (line-put (refusalPrinted k) output (omega (arith, length-append (written k) (lineFeed ∷ []))) .0)

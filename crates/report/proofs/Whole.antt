@@ -20,7 +20,7 @@ use Rattle.walks.specs.Promises.{depthWalk}
 use Rattle.folding.specs.Machine.{Config, finished}
 use Rattle.folding.specs.Calls as reply
 use Rattle.folding.specs.Calls.{unless, Call, runFor, serve, unopened, openReply, opening}
-use Rattle.folding.specs.Lines.{Line, begun, calls, lineB, folded}
+use Rattle.folding.specs.Lines.{Line, begun, calls, lineA, lineB, folded}
 use Rattle.folding.specs.Claims.{Agrees, Labelling}
 use Rattle.folding.proofs.Agreement.{profile, marks-long, agreement, demand2}
 use Rattle.folding.proofs.Totals.{steps-few, events-few, next-counts}
@@ -77,15 +77,16 @@ module _ {g : Image} {start : ℕ} {marks area : List ℕ} (K : CanWalk g start 
 
   -- k moves are enough: 2 m + n is at most 9,000.
   ended : line .config .phase ≡ finished
+  unfolding calls
   ended =
       let S = profile g [] start marks area (K .opens) .sound in
-      demand2 .ending g [] start marks area (K .opens) k room (omega (arith, enough, S .few-vertices, S .few-edges)) (omega (arith, fits, room-long))
+      demand2 .ending g [] start marks area (K .opens) [] k room (omega (arith, enough, S .few-vertices, S .few-edges)) (omega (arith, fits, room-long)) .finished-calm refl
 
   -- The line beside line A; the elements reached are those that the walk labels.
-  agrees : Agrees g [] start (labelled all) line
+  agrees : Agrees g (labelled all) (lineA g [] start) line
   agrees =
       let P = profile g [] start marks area (K .opens) in
-      agreement g [] start marks area (K .opens) (labelled all) (depth-first (graphOf g) [] start (profile-ready g (P .sound) [] start (P .start-vertex) (P .listed)) .complete .labels) list
+      agreement g g refl [] start marks area (K .opens) (labelled all) (depth-first (graphOf g) [] start (profile-ready g (P .sound) [] start (P .start-vertex) (P .listed)) .complete .labels) list
 
   -- The line has the labels of its events.
   labelling : Labelling g [] start marks line

@@ -1,12 +1,15 @@
--- The example that document 01 prints and that of document 02, item 5, byte for byte: a profile's text, and what `walk` prints for it.
+-- The examples that document 01 prints and that of document 02, item 5, byte for byte: a profile's text, and what `walk` prints for it.
 use mathlib.Core.Path.{_≡_}
-use mathlib.Core.List.{List, [], _∷_}
+use mathlib.Core.List.{List, [], _∷_, _++_}
 use mathlib.Core.Option.{some}
 use Prim.Native.Nat.{ℕ}
+use lib.ListN.{replicate}
+use Rattle.lists.specs.Rows.{Row, row, AllAnswered}
+use Rattle.graphs.specs.Refusals.{Lent, lent}
 use Rattle.numbers.specs.Padding.{unpad}
-use Rattle.texts.specs.Text.{Line, Listing, listingOf}
-use Rattle.report.specs.Printed.{walkPrinted}
-use Rattle.report.specs.Report.{graphFrom}
+use Rattle.texts.specs.Text.{Line, Listing, listingOf, elementNames, lineNames}
+use Rattle.report.specs.Printed.{walkPrinted, refusalPrinted}
+use Rattle.report.specs.Report.{graphFrom, reportNumber, walkReading, numberTo}
 
 abbrev pub exampleText : List ℕ
 exampleText =
@@ -56,12 +59,56 @@ line from to = record { from = from; to = to }
 abbrev pub example : Listing
 example = record { n = 3; m = 4; start = 1; lines = line 1 2 ∷ line 1 3 ∷ line 2 3 ∷ line 3 1 ∷ [] }
 
--- Either text says it, and this is printed of it. Without padding they are one text.
+-- `refused,6` and a line feed.
+abbrev pub refusedSix : List ℕ
+refusedSix = 114 ∷ 101 ∷ 102 ∷ 117 ∷ 115 ∷ 101 ∷ 100 ∷ 44 ∷ 54 ∷ 10 ∷ []
+
+-- One value line, `1,2`, with these sizes and this start; the text that says it of one element (6), with this digit for the start; a text that
+-- says no element, with `from;to` for its names (12).
+abbrev listing : (n m start : ℕ) → Listing
+listing n m start = record { n = n; m = m; start = start; lines = line 1 2 ∷ [] }
+
+abbrev text : ℕ → List ℕ
+text digit = elementNames ++ (49 ∷ 44 ∷ 49 ∷ 44 ∷ digit ∷ 10 ∷ []) ++ lineNames ++ (49 ∷ 44 ∷ 50 ∷ 10 ∷ [])
+
+abbrev noText : List ℕ
+noText = elementNames ++ (48 ∷ 44 ∷ 48 ∷ 44 ∷ 49 ∷ 10 ∷ 102 ∷ 114 ∷ 111 ∷ 109 ∷ 59 ∷ 116 ∷ 111 ∷ 10 ∷ [])
+
+-- An area that is short by a word (3).
+abbrev short : List Lent
+short = lent 1 [] ∷ []
+
+-- The number of what a text says, and of a text.
+abbrev said : List Lent → Listing → List ℕ
+said areas p = reportNumber areas p ∷ []
+
+abbrev walked : List Lent → List ℕ → List ℕ
+walked areas t = numberTo (walkReading areas t) ∷ []
+
+-- Of two faults the number that is said: 13 and 12, 12 and 1, 1 and 2, 2 and 3, 3 and 4, 4 and 6; each alone but 1 and 2.
+abbrev pub ordered : List Row
+ordered =
+    row (walked short (replicate 65537 0)) (13 ∷ [])
+    ∷ row (walked short noText) (12 ∷ [])
+    ∷ row (said short (listing 0 4001 1)) (1 ∷ [])
+    ∷ row (said short (listing 2 4001 1)) (2 ∷ [])
+    ∷ row (said short (listing 1 1 2)) (3 ∷ [])
+    ∷ row (said [] (listing 1 1 2)) (4 ∷ [])
+    ∷ row (said [] (listing 1 1 1)) (6 ∷ [])
+    ∷ row (said [] (listing 2 1 1)) (0 ∷ [])
+    ∷ row (walked short (text 50)) (3 ∷ [])
+    ∷ row (walked [] (text 50)) (4 ∷ [])
+    ∷ row (walked [] (text 49)) (6 ∷ [])
+    ∷ []
+
+-- Either text says it, and this is printed of it. Without padding they are one text. The line of a refusal; the numbers in their order.
 pub record ExampleClaim : Type 0 where
   pub says : listingOf exampleText ≡ some example
   pub padded-says : listingOf paddedText ≡ some example
   pub one-text : unpad paddedText ≡ exampleText
   pub prints : walkPrinted (graphFrom example) (example .start) ≡ examplePrinted
+  pub refuses : refusalPrinted 6 ≡ refusedSix
+  pub in-order : AllAnswered ordered
 
 -- ---- a shared file: references 1 to 2, 1 to 3 and 2 to 3, started at 1 (document 02, item 5)
 abbrev pub sharedText : List ℕ

@@ -8,10 +8,9 @@ use Rattle.lists.specs.Words.{at, overlay}
 use Rattle.graphs.specs.Graph.{Graph}
 use Rattle.graphs.specs.Events.{History}
 use Rattle.graphs.specs.Search.{depthFirst}
-use Rattle.graphs.specs.Refusals.{refuse, firstOf, Lent, lent, sizeRefusals, vertexOut, textOut}
+use Rattle.graphs.specs.Refusals.{refuse, firstOf, unlessRefused, Lent, lent, short, sizeRefusals, vertexOut, textOut}
 use Rattle.graphs.specs.Results.{marksLeft, eventsLeft}
 use Rattle.texts.specs.Text.{Listing, listingOf}
-use Rattle.numbers.specs.Decimal.{putAt, pastAt}
 use Rattle.texts.specs.Loading.{Reading, refused, loaded, decided, edgesFrom, afterOf, tailOf, linesOut}
 use Rattle.report.specs.declared.text.Report.{Report}
 use Rattle.report.specs.Printed.{walkPrinted, refusalPrinted}
@@ -54,11 +53,11 @@ pub record Told : Type 0 where
   pub marks : List ℕ
   pub events : List ℕ
 
--- A refusal prints its line, where there is room for it; nothing else changes. A profile is walked: what is printed is that of its depth-first
--- search, the links are as loaded, and marks and event area are what a walk leaves.
+-- A text that is refused prints nothing and changes nothing. A profile is walked: what is printed is that of its depth-first search, the links
+-- are as loaded, and marks and event area are what a walk leaves.
 abbrev pub reported : Reading → (after tail marks events output : List ℕ) → Told
 reported (refused k) after tail marks events output =
-    record { number = k; bytes = pastAt (refusalPrinted k) 0 output; output = putAt (refusalPrinted k) 0 output; after = after; tail = tail; marks = marks; events = events }
+    record { number = k; bytes = 0; output = output; after = after; tail = tail; marks = marks; events = events }
 reported (loaded p) after tail marks events output =
     record { number = 0; bytes = length (walkPrinted (graphFrom p) (p .start)); output = overlay (walkPrinted (graphFrom p) (p .start)) output; after = overlay (afterOf p) after; tail = overlay (tailOf p) tail; marks = marksLeft (p .n + p .m) [] (walkFrom p) marks; events = eventsLeft (walkFrom p) events }
 
@@ -69,6 +68,19 @@ reportOf text after tail marks events output = reported (walkReading (lentAreas 
 -- What is seen of the code's answer, with the areas as the call leaves them.
 abbrev pub told : Report → (after tail marks events output : List ℕ) → Told
 told r after tail marks events output = record { number = r .number; bytes = r .bytes; output = output; after = after; tail = tail; marks = marks; events = events }
+
+-- ---- the line of a refusal
+-- The number of the call that prints the line of number k: 3 where the area is shorter than the line.
+abbrev pub lineNumber : ℕ → List ℕ → ℕ
+lineNumber k output = firstOf (refuse 3 (short (lent (length (refusalPrinted k)) output ∷ [])) ∷ [])
+
+-- How many bytes it prints: those of the line, or none where it is refused.
+abbrev pub lineBytes : ℕ → List ℕ → ℕ
+lineBytes k output = length (unlessRefused (lineNumber k output) (refusalPrinted k) [])
+
+-- The area that it leaves: the line in front, or as it was where it is refused.
+abbrev pub lineLeft : ℕ → List ℕ → List ℕ
+lineLeft k output = unlessRefused (lineNumber k output) (overlay (refusalPrinted k) output) output
 
 -- ---- inside
 abbrev pub numberTo : Reading → ℕ

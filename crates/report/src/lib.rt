@@ -1,7 +1,8 @@
-// From a profile's text to what `walk` prints.
+// From a profile's text to what `walk` prints, and the line of a refusal.
 mod lines;
 mod text;
 mod walk;
 
+pub use lines::refusal_line;
 pub use text::Report;
 pub use text::walk_text;

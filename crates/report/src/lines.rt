@@ -1,4 +1,5 @@
 // Printing: the lines of a walk, and of a refusal, as bytes in the output area.
+use crate::text::Report;
 use crate::walk::Totals;
 use numbers::write_number;
 ghost use mathlib.Core.Path.{_≡_};
@@ -6,9 +7,9 @@ ghost use mathlib.Core.List.{[], _∷_, _++_};
 ghost use Prim.Native.Nat.{_+_, _*_, _≤_};
 ghost use lib.ListN.{length, take};
 ghost use Rattle.lists.specs.Words.{overlay, pasted};
-ghost use Rattle.numbers.specs.Decimal.{written, putAt, pastAt};
+ghost use Rattle.numbers.specs.Decimal.{written};
 ghost use Rattle.texts.specs.Text.{row};
-ghost use Rattle.report.specs.Printed.{refusalPrinted};
+ghost use Rattle.report.specs.Report.{lineNumber, lineBytes, lineLeft};
 ghost use Rattle.report.specs.Inside.{rows, printedFrom};
 
 // Writes bytes from place at on, and gives the place past them.
@@ -78,16 +79,22 @@ pub(crate) fn print_walk(t: Totals, events: &[u16], output: &mut [u8]) -> usize
     write_row(t.elements, t.moves, t.circular, output, r)
 }
 
-// Prints a refusal as one line, where there is room for it; else nothing.
-pub(crate) fn print_refusal(k: u16, output: &mut [u8]) -> usize
-    ensures next { λ r. ⌜ r ≡ pastAt (refusalPrinted k) 0 (now (output .entry)) ⌝ }
-    ensures words { λ r. ⌜ now (output .exit) ≡ putAt (refusalPrinted k) 0 (now (output .entry)) ⌝ }
+// Prints the line of a refusal: `refused,`, its number and a line feed, at the front of the output area. It is made aside, so that it is written
+// whole or, refused by 3 where the area is shorter than the line, not at all.
+pub fn refusal_line(number: u16, output: &mut [u8]) -> Report
+    ensures number { λ r. ⌜ r .number ≡ lineNumber number (now (output .entry)) ⌝ }
+    ensures bytes { λ r. ⌜ r .bytes ≡ lineBytes number (now (output .entry)) ⌝ }
+    ensures output { λ r. ⌜ now (output .exit) ≡ lineLeft number (now (output .entry)) ⌝ }
 {
     let mut line: [u8; 14] = [0; 14];
     let p = write_bytes(b"refused,", &mut line, 0);
-    let q = write_field(k, 10, &mut line, p);
+    let q = write_field(number, 10, &mut line, p);
     if output.len() < q {
-        return 0;
+        return Report {
+            number: 3,
+            bytes: 0,
+        };
     }
-    write_bytes(&line[..q], output, 0)
+    let bytes = write_bytes(&line[..q], output, 0);
+    Report { number: 0, bytes }
 }

@@ -1,5 +1,4 @@
 // From the bytes of a profile's text to the bytes printed.
-use crate::lines::print_refusal;
 use crate::lines::print_walk;
 use crate::walk::walk_whole;
 use texts::Profile;
@@ -10,10 +9,9 @@ ghost use mathlib.Core.List.{List};
 ghost use Prim.Native.Nat.{ℕ};
 ghost use lib.ListN.{length};
 ghost use Rattle.graphs.specs.Refusals.{Lent, short};
-ghost use Rattle.texts.specs.Loading as loading;
-ghost use Rattle.report.specs.Report.{lentAreas, walkReading, numberTo, reported, reportOf, told};
+ghost use Rattle.report.specs.Report.{lentAreas, walkReading, numberTo, reportOf, told};
 
-// The number of a refusal, 0 where the text is walked, and how many bytes are printed.
+// The number of a refusal, 0 where the call is taken, and how many bytes are printed.
 pub struct Report {
     pub number: u16,
     pub bytes: usize,
@@ -50,16 +48,8 @@ fn short_number(text: &[u8], after: &mut [u16], tail: &mut [u16]) -> u16
     }
 }
 
-// Prints a refusal.
-fn refused(k: u16, output: &mut [u8]) -> Report
-    ensures { λ r. ⌜ ((after tail marks events : List ℕ) → told r after tail marks events (now (output .exit)) ≡ reported (loading.refused k) after tail marks events (now (output .entry))) ⌝ }
-{
-    let bytes = print_refusal(k, output);
-    Report { number: k, bytes }
-}
-
 // Prints the folded depth-first walk of the profile that a text says: its events, then elements reached, moves and circular. Refused by 13, 12,
-// 1, 2, 3 (all areas), 4, 6: then `refused,` and the number are printed, where there is room for them, and no other word changes.
+// 1, 2, 3 (all areas), 4, 6: then nothing is printed, and no word of any area changes.
 pub fn walk_text(
     text: &[u8],
     after: &mut [u16],
@@ -77,11 +67,11 @@ pub fn walk_text(
         events.len(),
         output.len(),
     ) {
-        let k = short_number(text, after, tail);
-        return refused(k, output);
+        let number = short_number(text, after, tail);
+        return Report { number, bytes: 0 };
     }
     match read_profile(text, after, tail) {
-        Profile::Refused(k) => refused(k, output),
+        Profile::Refused(number) => Report { number, bytes: 0 },
         Profile::Loaded { n, m, start } => {
             let t = walk_whole(n, m, start, after, tail, marks, events);
             let bytes = print_walk(t, events, output);

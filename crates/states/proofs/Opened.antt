@@ -19,8 +19,7 @@ use Rattle.graphs.proofs.Results.{marks-first}
 use Rattle.graphs.proofs.Sound.{profile-sound}
 use Rattle.folding.specs.Calls.{refusing, unless, unopened, openNumber, openedAt, openReply, opening}
 use Rattle.walks.specs.Writing.{Roomy}
-use Rattle.walks.specs.declared.depth.Progress.{Progress}
-use Rattle.walks.proofs.Progress.{Starts, beginning}
+use Rattle.walks.proofs.Writing.{Starts, beginning}
 use Rattle.states.proofs.Numbers.{unless-refused}
 
 module _ (g : Image) (before : List ℕ) (start : ℕ) (marks area : List ℕ) {k : ℕ} (e : k ≡ searchNumber g before start (lent (g .n + g .m) marks ∷ lent 3 area ∷ [])) where
@@ -50,10 +49,12 @@ module _ (g : Image) (before : List ℕ) (start : ℕ) (marks area : List ℕ) {
       let a = long (g .n + g .m) marks (lent 3 area ∷ []) (P .areas-long) in
       record { start-vertex = P .start-vertex; off = P .listed .start-fresh; long-after = P .sound .long-after; long-marks = a .0; long-area = long 3 area [] (a .1) .0 }
 
-  pub opened : {marks′ area′ : List ℕ} {t : Progress} → k ≡ 0 → Starts (g .n + g .m) before start marks area marks′ area′ t → (put 0 marks′ start 32769 ≡ openedAt g before start marks .marks) × (area′ ≡ overlay (words (event label 0 start ∷ [])) area)
+  pub opened : {marks′ area′ t : List ℕ} → k ≡ 0 → Starts (g .n + g .m) before start marks area marks′ area′ t
+      → (put 0 marks′ start 32769 ≡ openedAt g before start marks .marks) × (area′ ≡ overlay (words (event label 0 start ∷ [])) area)
   opened z w =
       let O = opens z in
       let x = O .start-vertex in
       let R : Roomy (g .n + g .m) ([] ▸ event label 0 start) marks area = record { long-marks = O .long-marks; room = O .long-area; few = omega arith } in
       let H = beginning R (omega arith) start (O .off) (x .0) (omega arith) w in
-      (ap (λ (l : List ℕ). put 0 l start 32769) (H .marked ∙ sym (marks-first (g .n + g .m) before marks start (O .off) (x .0) (omega arith))) ∙ put-put 0 (marksFirst (g .n + g .m) before marks) start 1 32769, H .written)
+      let first = marks-first (g .n + g .m) before marks start (O .off) (x .0) (omega arith) in
+      (ap (λ (l : List ℕ). put 0 l start 32769) (H .marked ∙ sym first) ∙ put-put 0 (marksFirst (g .n + g .m) before marks) start 1 32769, H .written)

@@ -1,12 +1,14 @@
 -- What a caller sees of a call: document 01's number and values for each case of an answer, the state with the lent areas, and the event area.
+use mathlib.Core.Path.{_≡_}
 use mathlib.Core.Bool.{Bool, _&&_}
 use mathlib.Core.List.{List}
 use Prim.Native.Nat.{ℕ, suc}
 use lib.Dec.{ltb, leb}
 use lib.ListN.{length}
+use Rattle.graphs.specs.Image.{Image}
 use Rattle.folding.specs.Machine.{Config}
 use Rattle.folding.specs.Calls as calls
-use Rattle.folding.specs.Calls.{ended, spent, stuck, ran, taken, refused}
+use Rattle.folding.specs.Calls.{ended, spent, stuck, ran, taken, refused, Call, serve, opening}
 use Rattle.states.specs.declared.values.State.{State}
 use Rattle.states.specs.declared.values.Reply.{Reply}
 use Rattle.states.specs.declared.values.Reason.{Reason}
@@ -45,6 +47,15 @@ seenOf r = record { answer = r .answer; steps = r .steps; count = length (r .eve
 -- What is seen of a reply of the code, with the areas as the call leaves them.
 abbrev pub told : Reply → (after tail marks area : List ℕ) → Seen
 told r after tail marks area = record { answer = answerOf (r .answer); steps = r .steps; count = r .events; config = configOf (r .state) after tail marks; area = area }
+
+-- ---- what the calls promise
+-- `open`: what its caller sees is what is seen of the opening as defined, taken or refused.
+abbrev pub OpenPromise : Image → (before : List ℕ) → ℕ → (marks area : List ℕ) → Seen → Type 0
+OpenPromise g before start marks area s = s ≡ seenOf (opening g before start marks area)
+
+-- `run`, `step` and `roll_back`: what their caller sees is what is seen of the call as defined, on the state, links and marks that it is given.
+abbrev pub CallPromise : Config → Call → Seen → Type 0
+CallPromise w c s = s ≡ seenOf (serve w c)
 
 -- ---- inside
 -- What is seen of a run that stops.

@@ -6,7 +6,7 @@ use crate::values::State;
 use crate::values::refused;
 use images::Edge;
 use images::Vertex;
-use walks::depth::begin;
+use walks::begin;
 use walks::search_number;
 ghost use mathlib.Core.Path.{_≡_};
 ghost use mathlib.Core.Bool.{_&&_};
@@ -14,8 +14,8 @@ ghost use mathlib.Core.List.{List};
 ghost use Prim.Native.Nat.{ℕ};
 ghost use lib.Dec.{leb};
 ghost use Rattle.images.specs.Checking.{image};
-ghost use Rattle.folding.specs.Calls.{opening, unopened};
-ghost use Rattle.states.specs.Answers.{configOf, seenOf, told};
+ghost use Rattle.folding.specs.Calls.{unopened};
+ghost use Rattle.states.specs.Answers.{configOf, told, OpenPromise};
 
 // Whether the marks are as many as the nodes, and the event words 3.
 fn is_long(nodes: usize, marks: usize, events: usize) -> bool
@@ -56,7 +56,7 @@ pub fn open(
     marks: &mut [u16],
     events: &mut [u16],
 ) -> Reply
-    ensures { λ r. ⌜ told r (now (after .entry)) (now (tail .entry)) (now (marks .exit)) (now (events .exit)) ≡ seenOf (opening (image n m (now (after .entry)) (now (tail .entry))) (now (before .entry)) (start .0) (now (marks .entry)) (now (events .entry))) ⌝ }
+    ensures { λ r. ⌜ OpenPromise (image n m (now (after .entry)) (now (tail .entry))) (now (before .entry)) (start .0) (now (marks .entry)) (now (events .entry)) (told r (now (after .entry)) (now (tail .entry)) (now (marks .exit)) (now (events .exit))) ⌝ }
 {
     let x = start.0;
     let nodes = n as usize + m as usize;
@@ -65,7 +65,7 @@ pub fn open(
     if k != 0 {
         return refused(k, no_state(n, m, start));
     }
-    begin(marks, events, nodes, before, x);
+    begin(marks, events, nodes, before, start);
     let i = x as usize - 1;
     marks[i] = 32769; // 32,768 more than its number, since it is not yet scanned
     let e = Edge(after[i]);

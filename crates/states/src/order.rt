@@ -5,15 +5,14 @@ use crate::values::Answer;
 use crate::values::Reply;
 use crate::values::State;
 use crate::values::refused;
-ghost use mathlib.Core.Path.{_≡_};
 ghost use mathlib.Core.List.{List, []};
 ghost use Prim.Native.Nat.{ℕ};
-ghost use Rattle.folding.specs.Calls.{rollBack, serve};
-ghost use Rattle.states.specs.Answers.{configOf, seenOf, told};
+ghost use Rattle.folding.specs.Calls.{rollBack};
+ghost use Rattle.states.specs.Answers.{configOf, told, CallPromise};
 
 // Orders a search to be rolled back. It is lent no areas. Refused by 1, 2, 4, 8, 9.
 pub fn roll_back(s: State) -> Reply
-    ensures { λ r. ⌜ ((after tail marks : List ℕ) → told r after tail marks [] ≡ seenOf (serve (configOf s after tail marks) rollBack)) ⌝ }
+    ensures { λ r. ⌜ ((after tail marks : List ℕ) → CallPromise (configOf s after tail marks) rollBack (told r after tail marks [])) ⌝ }
 {
     let k = state_number(s, true);
     if k != 0 {

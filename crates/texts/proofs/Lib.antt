@@ -5,3 +5,4 @@ pub mod Reading
 pub mod Loads
 pub mod Alike
 pub mod Linking
+pub mod Rows

@@ -1,7 +1,14 @@
 // `walk`: reads a profile's text from standard input and prints its folded depth-first walk, or `refused,` and the number of a text that is
-// refused. What is printed is what `report::walk_text` promises; here it is only read and written.
+// refused. What is printed is what `report::walk_text` and `report::refusal_line` promise; here it is only read and written.
 
-// Prints the walk of a text.
+// Prints the line of a refusal; 14 bytes have room for that of any number.
+fn print_refusal(number: u16) {
+    let mut line = [0u8; 14];
+    let r = report::refusal_line(number, &mut line);
+    io::write_all(1, &line[..r.bytes]);
+}
+
+// Prints the walk of a text, or its refusal.
 fn print_walk(text: &[u8]) {
     let mut after = [0u16; 5000];
     let mut tail = [0u16; 4000];
@@ -16,6 +23,9 @@ fn print_walk(text: &[u8]) {
         &mut events,
         &mut output,
     );
+    if r.number != 0 {
+        return print_refusal(r.number);
+    }
     io::write_all(1, &output[..r.bytes]);
 }
 

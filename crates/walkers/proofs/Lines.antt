@@ -2,7 +2,7 @@
 use mathlib.Core.Path.{_≡_, refl, sym, ap, _∙_, subst}
 use mathlib.Core.Bool.{cond}
 use mathlib.Core.List.{List, [], _∷_, _++_, reverse, reverse-reverse, IsPrefix}
-use Prim.Native.Nat.{ℕ, _+_, _*_}
+use Prim.Native.Nat.{ℕ, zero, suc, _+_, _*_}
 use native.Mathlib.Omega.{arith}
 use lib.Dec.{eqb}
 use lib.ListN.{length, take, drop, length-reverse}
@@ -17,14 +17,15 @@ use Rattle.graphs.proofs.Results.{tally-sums}
 use Rattle.graphs.proofs.Room.{words-length, profile-ready}
 use Rattle.walks.specs.Promises.{depthWalk}
 use Rattle.walks.proofs.Events.{words-append}
-use Rattle.folding.specs.Calls.{Reply, Call, areaOf, serve, opening, openNumber}
+use Rattle.folding.specs.Calls.{taken, refused, Reply, unless, Call, areaOf, serve, unopened, opening, openReply, openNumber}
 use Rattle.folding.specs.Lines.{Line, lineA, lineB, folded, noted, calls, begun}
 use Rattle.folding.specs.Claims.{Agrees}
 use Rattle.folding.proofs.AnyInput.{demand1}
-use Rattle.folding.proofs.Agreement.{profile, demand2, agreement}
+use Rattle.folding.proofs.Agreement.{profile, demand2, agreement, enough}
 use Rattle.states.specs.Answers.{Seen, seenOf}
 use Rattle.scripts.specs.Script.{scripted, replayed}
-use Rattle.walkers.specs.TwoLines.{LineAClaim, Kept, Account, written, opened, added, account, accountOf, TieClaim, Labels, LabelsClaim, ReplayLabelsClaim, Agree, TwoLinesClaim, ReplayClaim}
+use Rattle.walkers.specs.TwoLines.{Kept, Account, written, opened, added, account, LineB, LineAClaim, accountOf, TieClaim, Labels, LabelsClaim, ReplayLabelsClaim, Agree, TwoAreasClaim, ReplayClaim}
+use Rattle.walkers.proofs.Claims.{told-taken}
 
 -- ---- line A
 -- The words of events stand in front of the area that they are written to, three for each.
@@ -32,9 +33,7 @@ in-front : (es : List Event) (k : ℕ) (area area′ : List ℕ) → k ≡ lengt
 in-front es k area area′ n e = ap (take (3 * k)) e ∙ take-at (words es) (drop (length (words es)) area) (3 * k) (omega (arith, words-length es))
 
 pub line-a : LineAClaim
-line-a g before start marks events t marks′ events′ P =
-    let h = depthWalk g before start in
-    in-front (lineA g before start) (sumOf (λ k. k) t) events events′ (ap (sumOf (λ k. k)) (P .tally-is) ∙ tally-sums h ∙ sym (length-reverse h)) (P .events-are)
+line-a a before start A = told-taken (A .walk) (A .walk-taken)
 
 -- ---- line B
 -- The words that a call has written are those of its events.
@@ -62,14 +61,15 @@ tied l (c ∷ cs) (s ∷ ss) K =
     ∙ tied (noted l c (serve (l .config) c)) cs ss (subst (λ (x : Seen). Kept (x .config) cs ss) (K .0) (K .1))
 
 pub tie : TieClaim
-tie g before start marks area o e cs ss K =
-    let r : Reply = opening g before start marks area in
-    ap (λ (a : Account). account a cs ss) (ap opened e ∙ ap (accountWith (begun r)) (tells r area (demand1 .opening-confined g before start marks area .told)))
-    ∙ tied (begun r) cs ss (subst (λ (x : Seen). Kept (x .config) cs ss) e K)
+tie g before start B =
+    let r : Reply = opening g before start (B .marks) (B .area) in
+    ap (λ (a : Account). account a (B .calls) (B .seen)) (ap opened (B .opens) ∙ ap (accountWith (begun r)) (tells r (B .area) (demand1 .opening-confined g before start (B .marks) (B .area) .told)))
+    ∙ tied (begun r) (B .calls) (B .seen) (subst (λ (x : Seen). Kept (x .config) (B .calls) (B .seen)) (B .opens) (B .kept))
 
 -- ---- demand 2
 -- A line that has ended has the events of the one depth-first search.
-labelled : (g : Image) (before : List ℕ) (start : ℕ) (marks area : List ℕ) → openNumber g before start marks area ≡ 0 → (cs : List Call) → Labels g before start marks (accountOf (lineB folded g before start marks area cs))
+labelled : (g : Image) (before : List ℕ) (start : ℕ) (marks area : List ℕ) → openNumber g before start marks area ≡ 0 → (cs : List Call)
+    → Labels g before start marks (accountOf (lineB folded g before start marks area cs))
 labelled g before start marks area h cs =
     let l : Line = lineB folded g before start marks area cs in
     let P = profile g before start marks area h in
@@ -85,10 +85,24 @@ labelled g before start marks area h cs =
       circular = L .circular;
       marks-now = L .marks-now;
       blanks = L .blanks;
+      ending = λ k room s big roomy c. (
+          let E = enough g before start marks area h cs k room big roomy in
+          let at-end = ap (λ (x : Seen). x .config .phase) c in
+          (λ calm. at-end ∙ E .0 calm, λ ro. at-end ∙ E .1 ro)
+          );
     }
 
+-- An opening that answers "taken" is not refused.
+pub opened-zero : (g : Image) (before : List ℕ) (start : ℕ) (B : LineB g before start) → openNumber g before start (B .marks) (B .area) ≡ 0
+unfolding opening
+opened-zero g before start B = go (openNumber g before start (B .marks) (B .area)) (ap (λ (x : Seen). x .answer) (sym (B .opens)) ∙ B .open-taken)
+  where
+    go : (k : ℕ) → unless k (unopened g start (B .marks)) (B .area) (openReply g before start (B .marks) (B .area)) .answer ≡ taken → k ≡ 0
+    go zero q = refl
+    go (suc k) q = absurd (let e : refused (suc k) ≡ taken = q in let z : _≡_ {A = ℕ} 0 1 = cc in omega arith)
+
 pub labels-as-defined : LabelsClaim
-labels-as-defined g before start marks area h o e cs ss K = rw (tie g before start marks area o e cs ss K) (labelled g before start marks area h cs)
+labels-as-defined g before start B = rw (tie g before start B) (labelled g before start (B .marks) (B .area) (opened-zero g before start B) (B .calls))
 
 -- The calls of a script that is opened.
 abbrev played : Image → (before : List ℕ) → ℕ → (marks area script : List ℕ) → List Call
@@ -103,14 +117,14 @@ words-first : (es : List Event) {fs : List Event} → IsPrefix es fs → IsPrefi
 words-first es (gs, e) = (words gs, sym (words-append es gs) ∙ ap words e)
 
 -- What is proved of the events of a line, of its event words.
-in-words : (g : Image) (before : List ℕ) (start : ℕ) (vs : List ℕ) (l : Line) → Agrees g before start vs l → Agree g before start vs (words (lineA g before start)) (accountOf l)
-in-words g before start vs l A = record { first = words-first (l .events) (A .first); ends = A .ends; all = λ calm end. ap words (A .all calm end); bound = A .bound; below = A .below; restored = A .restored; faultless = A .faultless }
+in-words : (g : Image) (vs : List ℕ) (es : List Event) (l : Line) → Agrees g vs es l → Agree g vs (words es) (accountOf l)
+in-words g vs es l A = record { first = words-first (l .events) (A .first); ends = A .ends; all = λ calm end. ap words (A .all calm end); bound = A .bound; below = A .below; restored = A .restored; faultless = A .faultless }
 
-pub two-lines : TwoLinesClaim
-two-lines g before start marksA eventsA t marksA′ eventsA′ taken P marks area h o e cs ss K vs E =
-    rw (line-a g before start marksA eventsA t marksA′ eventsA′ (rw taken at P), tie g before start marks area o e cs ss K)
-    (in-words g before start vs (lineB folded g before start marks area cs) (agreement g before start marks area h vs E cs))
+pub two-areas : TwoAreasClaim
+two-areas a g L before start A B vs E =
+    rw (line-a a before start A, tie g before start B)
+    (in-words g vs (lineA a before start) (lineB folded g before start (B .marks) (B .area) (B .calls)) (agreement a g L before start (B .marks) (B .area) (opened-zero g before start B) vs E (B .calls)))
 
 pub replay-agrees : ReplayClaim
-replay-agrees g before start marks area h script vs E =
-    in-words g before start vs (replayed g before start marks area script) (agreement g before start marks area h vs E (played g before start marks area script))
+replay-agrees a g L before start marks area h script vs E =
+    in-words g vs (lineA a before start) (replayed g before start marks area script) (agreement a g L before start marks area h vs E (played g before start marks area script))

@@ -1,20 +1,21 @@
--- What is claimed of the walks, as types; proofs/Claims has the theorems. The promises of `dfs_recursive` and `dfs_parent` name the events
--- `depthWalk`, those of `bfs_queue` and `bfs_folded` the events `breadthWalk`, that of `dfs_array` the events `arrayWalk`.
+-- What is claimed of the walks, as types; proofs/Claims has the theorems. `dfs_recursive` and `dfs_parent` promise `DepthPromise`, `bfs_queue`
+-- and `bfs_folded` `BreadthPromise`, `dfs_array` `ArrayPromise`: the claims cite what the contracts cite.
 use mathlib.Core.Path.{_≡_}
 use mathlib.Core.Logic.{_↔_}
 use mathlib.Core.Bool.{true, false}
 use mathlib.Core.List.{List, _++_, reverse}
-use Prim.Native.Nat.{ℕ, _+_, _≤_}
-use lib.ListN.{length}
+use Prim.Native.Nat.{ℕ, _+_, _*_, _≤_}
+use lib.ListN.{length, take}
 use Rattle.lists.specs.Counts.{sumOf}
 use Rattle.lists.specs.Words.{at}
 use Rattle.graphs.specs.Events.{History, tally, words, renamed}
-use Rattle.graphs.specs.Results.{marksLeft, eventsLeft}
-use Rattle.graphs.specs.Image.{Image, graphOf}
+use Rattle.graphs.specs.Results.{eventsLeft}
+use Rattle.graphs.specs.Image.{Image, SameLinks, graphOf}
 use Rattle.graphs.specs.ArrayForm.{ArrayForm, arrayGraph, arrayLeft, numbersLeft}
-use Rattle.graphs.specs.Refusals.{Lent, short, imageAreas, sound, unlessRefused}
+use Rattle.graphs.specs.Refusals.{Lent, short, imageAreas, sound}
 use Rattle.graphs.specs.Claims.{DepthClaim, BreadthClaim, Unnamed, Untouched, SameSearch}
-use Rattle.walks.specs.Promises.{writtenAreas, walkNumber, arrayWalkNumber, depthWalk, arrayWalk, breadthWalk, tallied}
+use Rattle.walks.specs.declared.write.Walked.{Walked}
+use Rattle.walks.specs.Promises.{writtenAreas, walkNumber, arrayWalkNumber, depthWalk, arrayWalk, breadthWalk, DepthPromise, BreadthPromise, ArrayPromise}
 
 -- A walk of a linked image is taken exactly where the profile, with the elements already on the blank, is sound and every area is as long
 -- as stated.
@@ -53,23 +54,30 @@ ConvertedClaim = (g : Image) (before : List ℕ) (start : ℕ) (marks events inc
     → (arrayWalkNumber (arrayLeft g firsts tails) before start marks increments events ≡ 0) × SameSearch g (arrayLeft g firsts tails) (numbersLeft g numbers) before start
 
 -- ---- the walkers agree
--- What each walker promises of its tally and of the areas that all walkers write, where its number is k and its events are h.
-pub record Promised (k nodes : ℕ) (before : List ℕ) (h : History) (marks events t marks′ events′ : List ℕ) : Type 0 where
-  pub tally-is : t ≡ tallied k h
-  pub marks-are : marks′ ≡ unlessRefused k (marksLeft nodes before h marks) marks
-  pub events-are : events′ ≡ unlessRefused k (eventsLeft h events) events
+-- The event words that a walk has written, by its tally.
+abbrev pub toldBy : Walked → List ℕ → List ℕ
+toldBy r events = take (3 * sumOf (λ k. k) (r .tally)) events
 
--- Two walks of the same events, with the same elements on the blank, lent the same marks and event words, leave the same: the depth-first
--- ones of a linked image, and the breadth-first ones.
-abbrev pub SameClaim : Type 0
-SameClaim = (k nodes : ℕ) (before : List ℕ) (h : History) (marks events t marks′ events′ u marks″ events″ : List ℕ)
-    → Promised k nodes before h marks events t marks′ events′ → Promised k nodes before h marks events u marks″ events″
-    → (t ≡ u) × ((marks′ ≡ marks″) × (events′ ≡ events″))
+-- Two walks leave the same tally, the same event words, and the same marks of so many nodes.
+pub record SameWalk (nodes : ℕ) (r s : Walked) (marks events others told : List ℕ) : Type 0 where
+  pub tallies : r .tally ≡ s .tally
+  pub events-told : toldBy r events ≡ toldBy s told
+  pub marks-left : take nodes marks ≡ take nodes others
 
--- So does the walk of the array form that a conversion leaves, once the list of edge numbers has turned its events back.
+-- Two walks of the same search that are taken, of images with the same links, each in areas of its own, with the same elements on the blank
+-- and the same start: the depth-first ones, recursive and by parent edges, and the breadth-first ones, by a queue and folded.
+pub record SameClaim : Type 0 where
+  pub depth : (a g : Image) → SameLinks a g → (before : List ℕ) (start : ℕ) (own more : List Lent) (marks events marks′ events′ others room others′ room′ : List ℕ) (r s : Walked)
+      → DepthPromise a before start own marks events r marks′ events′ → DepthPromise g before start more others room s others′ room′
+      → r .number ≡ 0 → s .number ≡ 0 → SameWalk (g .n + g .m) r s marks′ events′ others′ room′
+  pub breadth : (a g : Image) → SameLinks a g → (before : List ℕ) (start : ℕ) (own more : List Lent) (marks events marks′ events′ others room others′ room′ : List ℕ) (r s : Walked)
+      → BreadthPromise a before start own marks events r marks′ events′ → BreadthPromise g before start more others room s others′ room′
+      → r .number ≡ 0 → s .number ≡ 0 → SameWalk (g .n + g .m) r s marks′ events′ others′ room′
+
+-- So does the walk of the array form that a conversion leaves, lent the same marks and event words, once the list of edge numbers has turned
+-- its events back.
 abbrev pub TurnedBackClaim : Type 0
-TurnedBackClaim = (g : Image) (before : List ℕ) (start : ℕ) (marks events increments : List ℕ) (own : List Lent) (firsts tails numbers t marks′ events′ u marks″ events″ : List ℕ)
-    → walkNumber g before start marks events own ≡ 0 → g .n ≤ length increments
-    → Promised 0 (g .n + g .m) before (depthWalk g before start) marks events t marks′ events′
-    → Promised 0 (g .n + g .m) before (arrayWalk (arrayLeft g firsts tails) before start) marks events u marks″ events″
-    → (t ≡ u) × ((marks′ ≡ marks″) × (events′ ≡ eventsLeft (renamed (at (g .n) (numbersLeft g numbers)) (arrayWalk (arrayLeft g firsts tails) before start)) events))
+TurnedBackClaim = (g : Image) (before : List ℕ) (start : ℕ) (own : List Lent) (firsts tails numbers increments marks events marks′ events′ marks″ events″ : List ℕ) (r s : Walked)
+    → g .n ≤ length increments → DepthPromise g before start own marks events r marks′ events′ → r .number ≡ 0
+    → ArrayPromise (arrayLeft g firsts tails) before start increments marks events s marks″ events″
+    → (r .tally ≡ s .tally) × ((marks′ ≡ marks″) × (events′ ≡ eventsLeft (renamed (at (g .n) (numbersLeft g numbers)) (arrayWalk (arrayLeft g firsts tails) before start)) events))

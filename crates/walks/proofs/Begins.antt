@@ -1,6 +1,6 @@
--- What a walk taken may rely on, and what a walk refused answers.
+-- What a walk taken may rely on, and what a walk taken and a walk refused promise.
 -- The number of a walk is 0 only where the profile is sound and every area is as long as stated.
-use mathlib.Core.Path.{_≡_, refl}
+use mathlib.Core.Path.{_≡_, refl, sym, ap, _∙_}
 use mathlib.Core.Logic.{_≢_}
 use mathlib.Core.Bool.{false}
 use mathlib.Core.List.{List, _∷_, _++_}
@@ -10,13 +10,15 @@ use lib.ListN.{length}
 use Rattle.graphs.specs.Nodes.{Vertex}
 use Rattle.graphs.specs.Events.{History}
 use Rattle.graphs.specs.Image.{Image}
-use Rattle.graphs.specs.Refusals.{Lent, lent, short}
-use Rattle.graphs.proofs.Refusals.{long}
+use Rattle.graphs.specs.Results.{marksLeft, eventsLeft}
+use Rattle.graphs.specs.Refusals.{Lent, lent, short, unlessRefused}
+use Rattle.graphs.proofs.Refusals.{long, refused}
 use Rattle.graphs.proofs.Blanks.{Listed}
 use Rattle.graphs.proofs.Room.{room}
 use Rattle.graphs.proofs.Sound.{Sound, profile-sound}
-use Rattle.walks.specs.Promises.{writtenAreas, walkNumber, depthWalk, breadthWalk, tallied}
-use Rattle.walks.specs.Writing.{noEvents, Roomy}
+use Rattle.walks.specs.declared.write.Walked.{Walked}
+use Rattle.walks.specs.Promises.{writtenAreas, walkNumber, depthWalk, breadthWalk, tallied, Promised}
+use Rattle.walks.specs.Writing.{noEvents, Held, Roomy}
 use Rattle.walks.proofs.Events.{words-many}
 
 -- ---- a walk taken
@@ -53,7 +55,32 @@ begins g before start marks events own e =
       own-long = b .1;
     }
 
--- ---- a walk refused
-pub zeros-tallied : (k : ℕ) (h : History) → k ≢ 0 → noEvents ≡ tallied k h
+-- ---- what is promised
+zeros-tallied : (k : ℕ) (h : History) → k ≢ 0 → noEvents ≡ tallied k h
 zeros-tallied zero h ne = absurd (ne refl)
 zeros-tallied (suc k) h ne = refl
+
+module _ {k nodes : ℕ} {before : List ℕ} {h : History} {marks events : List ℕ} {r : Walked} where
+  -- Of a walk refused, which leaves all as it was.
+  pub refused-promised : {j : ℕ} → j ≡ k → j ≢ 0 → (r .number ≡ j) × (r .tally ≡ noEvents) → Promised k nodes before h marks events r marks events
+  refused-promised e ne f =
+      let no : k ≢ 0 = λ z. ne (e ∙ z) in
+      record { number-is = f .0 ∙ e; tally-is = f .1 ∙ zeros-tallied k h no; marks-are = refused k (marksLeft nodes before h marks) marks no; events-are = refused k (eventsLeft h events) events no }
+
+  -- Of a walk taken, whose events are written.
+  pub taken-promised : {marks′ events′ : List ℕ} → k ≡ 0 → r .number ≡ 0 → Held nodes before h marks events marks′ events′ (r .tally) → Promised k nodes before h marks events r marks′ events′
+  taken-promised e f H = record {
+    number-is = f ∙ sym e;
+    tally-is = H .counts ∙ ap (λ (j : ℕ). tallied j h) (sym e);
+    marks-are = H .marked ∙ ap (λ (j : ℕ). unlessRefused j (marksLeft nodes before h marks) marks) (sym e);
+    events-are = H .written ∙ ap (λ (j : ℕ). unlessRefused j (eventsLeft h events) events) (sym e);
+  }
+
+  -- By the number that it answers.
+  pub answered : {j : ℕ} {marks′ events′ : List ℕ} → Promised k nodes before h marks events r marks′ events′ → r .number ≡ j
+      → (r .tally ≡ tallied j h) × ((marks′ ≡ unlessRefused j (marksLeft nodes before h marks) marks) × (events′ ≡ unlessRefused j (eventsLeft h events) events))
+  answered {j} P e =
+      let is : k ≡ j = sym (P .number-is) ∙ e in (
+        P .tally-is ∙ ap (λ (i : ℕ). tallied i h) is,
+        (P .marks-are ∙ ap (λ (i : ℕ). unlessRefused i (marksLeft nodes before h marks) marks) is, P .events-are ∙ ap (λ (i : ℕ). unlessRefused i (eventsLeft h events) events) is),
+      )

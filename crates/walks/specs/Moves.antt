@@ -8,16 +8,14 @@ use Rattle.graphs.specs.Search.{depthFirst}
 use Rattle.graphs.specs.Claims.{Ready}
 use Rattle.graphs.proofs.Places.{Frame, Scene}
 use Rattle.graphs.proofs.Trees.{AllTrees}
-use Rattle.walks.specs.declared.depth.Progress.{Progress}
-use Rattle.walks.specs.Writing.{Roomy}
-use Rattle.walks.specs.Progress.{Written}
+use Rattle.walks.specs.Writing.{Held, Roomy}
 
--- After the events h: v is being scanned, `done` passed, `rest` ahead, the frames s below; marks and events are those that h leaves, and t says how far the walk has come.
+-- After the events h: v is being scanned, `done` passed, `rest` ahead, the frames s below; marks, events and tally are those that h leaves.
 -- Every tree edge so far leaves a labelled vertex.
-pub record Underway (G : Graph) (nodes : ℕ) (before : List ℕ) (start : ℕ) (h : History) (v : ℕ) (done rest : List ℕ) (s : List Frame) (marks₀ events₀ marks events : List ℕ) (t : Progress) : Type 0 where
+pub record Underway (G : Graph) (nodes : ℕ) (before : List ℕ) (start : ℕ) (h : History) (v : ℕ) (done rest : List ℕ) (s : List Frame) (marks₀ events₀ marks events t : List ℕ) : Type 0 where
   pub ready : Ready G before start
   pub within : G .size ≤ nodes
   pub roomy : Roomy nodes (depthFirst G before start) marks₀ events₀
   pub scene : Scene G before start h v done rest s
   pub trees : AllTrees (λ r u. Mem u (labelled h)) h
-  pub areas : Written nodes before h marks₀ events₀ marks events t
+  pub held : Held nodes before h marks₀ events₀ marks events t

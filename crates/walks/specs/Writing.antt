@@ -2,13 +2,13 @@
 use mathlib.Core.Path.{_≡_}
 use mathlib.Core.Bool.{Bool, cond, _&&_}
 use mathlib.Core.List.{List, [], _∷_}
-use Prim.Native.Nat.{ℕ, suc, _-_, _+_, _*_, _≤_}
+use Prim.Native.Nat.{ℕ, suc, _-_, _+_, _*_, _≤_, min}
 use lib.Dec.{leb}
 use lib.ListN.{length, getD, set}
 use Rattle.lists.specs.Counts.{sumOf}
 use Rattle.lists.specs.Words.{put, pasted}
 use Rattle.graphs.specs.Events.{History, tally}
-use Rattle.graphs.specs.Results.{eventsLeft, blankMark, marksLeft}
+use Rattle.graphs.specs.Results.{eventsLeft, blankMark, marksFirst, marksLeft}
 
 -- The tally of no events.
 abbrev pub noEvents : List ℕ
@@ -50,6 +50,10 @@ labelEvents u t b events = cond (canLabel u t b (length events)) (pasted (3 * to
 -- One element on the blank marked, where it is one of the first k nodes.
 abbrev pub blankMarked : ℕ → ℕ → List ℕ → List ℕ
 blankMarked k x marks = cond (leb 1 x && leb x k) (put 0 marks x blankMark) marks
+
+-- The marks of so many nodes first, all where there are fewer marks: cleared but for the elements `before` on the blank.
+abbrev pub blanksMarked : ℕ → List ℕ → List ℕ → List ℕ
+blanksMarked nodes before marks = marksFirst (min nodes (length marks)) before marks
 
 -- The areas of a walk after the events h, with the elements `before` on the blank: `marks₀` and `events₀` are the areas as lent, the first
 -- k marks those of the nodes.

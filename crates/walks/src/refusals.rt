@@ -10,7 +10,23 @@ ghost use lib.Dec.{leb};
 ghost use Rattle.graphs.specs.Refusals.{Lent, short, firstOf, blankRefusals, searchNumber};
 ghost use Rattle.images.specs.Checking.{image};
 ghost use Rattle.arrays.specs.Arrays.{arrayIn};
-ghost use Rattle.walks.specs.Promises.{walkNumber, arrayWalkNumber};
+ghost use Rattle.walks.specs.Promises.{sizesOut, walkNumber, arrayWalkNumber};
+
+// The number that the sizes give: no vertex or over 1,000 is 1, over 4,000 edges are 2.
+fn size_number(n: u16, m: u16) -> u16
+    ensures { λ r. ⌜ r ≡ firstOf (sizesOut n m) ⌝ }
+{
+    if n == 0 {
+        return 1;
+    }
+    if n > 1000 {
+        return 1;
+    }
+    if m > 4000 {
+        return 2;
+    }
+    0
+}
 
 // The number that the list gives: a list out of order is 17 even where it holds the start.
 fn list_number(n: u16, before: &[u16], start: images::Vertex) -> u16
@@ -38,14 +54,9 @@ pub fn search_number(
 ) -> u16
     ensures { λ r. ⌜ ((areas : List Lent) → long ≡ not (short areas) → r ≡ searchNumber (image n m (now (after .entry)) (now (tail .entry))) (now (before .entry)) (start .0) areas) ⌝ }
 {
-    if n == 0 {
-        return 1;
-    }
-    if n > 1000 {
-        return 1;
-    }
-    if m > 4000 {
-        return 2;
+    let size = size_number(n, m);
+    if size != 0 {
+        return size;
     }
     if after.len() < n as usize + m as usize {
         return 3;
@@ -113,14 +124,9 @@ pub fn array_walk_number(
 ) -> u16
     ensures { λ r. ⌜ r ≡ arrayWalkNumber (arrayIn n m (now (firsts .entry)) (now (tails .entry))) (now (before .entry)) (start .0) (now (marks .entry)) (now (increments .entry)) (now (events .entry)) ⌝ }
 {
-    if n == 0 {
-        return 1;
-    }
-    if n > 1000 {
-        return 1;
-    }
-    if m > 4000 {
-        return 2;
+    let size = size_number(n, m);
+    if size != 0 {
+        return size;
     }
     let nodes = n as usize + m as usize;
     if firsts.len() < n as usize + 1 {

@@ -1,12 +1,12 @@
 // What every walk writes: marks and events. The tally of the events by kind, seven counts, is passed and returned. What has no room is not
 // written, and then nothing changes.
+use images::Edge;
+use images::Vertex;
 ghost use mathlib.Core.Path.{_≡_};
-ghost use mathlib.Core.List.{[], _∷_};
-ghost use Prim.Native.Nat.{ℕ, _/_, min};
+ghost use Prim.Native.Nat.{_/_, min};
 ghost use lib.ListN.{length};
 ghost use Rattle.lists.specs.Words.{cleared};
-ghost use Rattle.graphs.specs.Results.{marksFirst};
-ghost use Rattle.walks.specs.Writing.{total, hasRoom, tallyAfter, eventsAfter, labelTally, labelMarks, labelEvents, blankMarked, noEvents};
+ghost use Rattle.walks.specs.Writing.{total, hasRoom, tallyAfter, eventsAfter, labelTally, labelMarks, labelEvents, blankMarked, blanksMarked, noEvents};
 
 // A walker's answer: the number of its refusal, else 0, and its events by kind.
 pub struct Walked {
@@ -58,17 +58,17 @@ fn has_room(kind: u16, tally: [u32; 7], a: usize) -> bool
 }
 
 // Writes one event behind those tallied, and counts it.
-pub fn emit(events: &mut [u16], kind: u16, r: u16, u: u16, tally: [u32; 7]) -> [u32; 7]
+pub fn emit(events: &mut [u16], kind: u16, r: Edge, u: Vertex, tally: [u32; 7]) -> [u32; 7]
     ensures tally { λ t. ⌜ t ≡ tallyAfter kind tally (length (now (events .entry))) ⌝ }
-    ensures events { λ t. ⌜ now (events .exit) ≡ eventsAfter kind r u tally (now (events .entry)) ⌝ }
+    ensures events { λ t. ⌜ now (events .exit) ≡ eventsAfter kind (r .0) (u .0) tally (now (events .entry)) ⌝ }
 {
     if !has_room(kind, tally, events.len()) {
         return tally;
     }
     let at = 3 * count(tally);
     events[at] = kind;
-    events[at + 1] = r;
-    events[at + 2] = u;
+    events[at + 1] = r.0;
+    events[at + 2] = u.0;
     let k = kind as usize - 1;
     let mut t = tally;
     t[k] = t[k] + 1;
@@ -76,23 +76,24 @@ pub fn emit(events: &mut [u16], kind: u16, r: u16, u: u16, tally: [u32; 7]) -> [
 }
 
 // Labels u with the next number, and writes that event.
-pub fn label(marks: &mut [u16], events: &mut [u16], u: u16, tally: [u32; 7]) -> [u32; 7]
-    ensures tally { λ t. ⌜ t ≡ labelTally u tally (length (now (marks .entry))) (length (now (events .entry))) ⌝ }
-    ensures marks { λ t. ⌜ now (marks .exit) ≡ labelMarks u tally (now (marks .entry)) (length (now (events .entry))) ⌝ }
-    ensures events { λ t. ⌜ now (events .exit) ≡ labelEvents u tally (length (now (marks .entry))) (now (events .entry)) ⌝ }
+pub fn label(marks: &mut [u16], events: &mut [u16], u: Vertex, tally: [u32; 7]) -> [u32; 7]
+    ensures tally { λ t. ⌜ t ≡ labelTally (u .0) tally (length (now (marks .entry))) (length (now (events .entry))) ⌝ }
+    ensures marks { λ t. ⌜ now (marks .exit) ≡ labelMarks (u .0) tally (now (marks .entry)) (length (now (events .entry))) ⌝ }
+    ensures events { λ t. ⌜ now (events .exit) ≡ labelEvents (u .0) tally (length (now (marks .entry))) (now (events .entry)) ⌝ }
 {
-    if u == 0 {
+    let x = u.0;
+    if x == 0 {
         return tally;
     }
-    if (u as usize) > marks.len() {
+    if (x as usize) > marks.len() {
         return tally;
     }
     if !has_room(1, tally, events.len()) {
         return tally;
     }
-    let i = u as usize - 1;
+    let i = x as usize - 1;
     marks[i] = (tally[0] + 1) as u16;
-    emit(events, 1, 0, u, tally)
+    emit(events, 1, Edge(0), u, tally)
 }
 
 // Clears the first k words, all where there are fewer.
@@ -130,7 +131,7 @@ fn mark_blank(marks: &mut [u16], nodes: usize, x: u16)
 
 // Clears the marks of all nodes, and marks the elements already on the blank with 65,535.
 pub fn mark_blanks(marks: &mut [u16], nodes: usize, before: &[u16])
-    ensures { λ t. ⌜ now (marks .exit) ≡ marksFirst (min nodes (length (now (marks .entry)))) (now (before .entry)) (now (marks .entry)) ⌝ }
+    ensures { λ t. ⌜ now (marks .exit) ≡ blanksMarked nodes (now (before .entry)) (now (marks .entry)) ⌝ }
 {
     clear(marks, nodes);
     let mut i: usize = 0;
@@ -147,11 +148,11 @@ pub fn begin(
     events: &mut [u16],
     nodes: usize,
     before: &[u16],
-    start: u16,
+    start: Vertex,
 ) -> [u32; 7]
-    ensures tally { λ t. ⌜ t ≡ labelTally start noEvents (length (now (marks .entry))) (length (now (events .entry))) ⌝ }
-    ensures marks { λ t. ⌜ now (marks .exit) ≡ labelMarks start noEvents (marksFirst (min nodes (length (now (marks .entry)))) (now (before .entry)) (now (marks .entry))) (length (now (events .entry))) ⌝ }
-    ensures events { λ t. ⌜ now (events .exit) ≡ labelEvents start noEvents (length (now (marks .entry))) (now (events .entry)) ⌝ }
+    ensures tally { λ t. ⌜ t ≡ labelTally (start .0) noEvents (length (now (marks .entry))) (length (now (events .entry))) ⌝ }
+    ensures marks { λ t. ⌜ now (marks .exit) ≡ labelMarks (start .0) noEvents (blanksMarked nodes (now (before .entry)) (now (marks .entry))) (length (now (events .entry))) ⌝ }
+    ensures events { λ t. ⌜ now (events .exit) ≡ labelEvents (start .0) noEvents (length (now (marks .entry))) (now (events .entry)) ⌝ }
 {
     mark_blanks(marks, nodes, before);
     label(marks, events, start, [0; 7])

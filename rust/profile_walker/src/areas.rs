@@ -1,5 +1,5 @@
-//! The fifteen calls with every area lent as a slice of any length, and every word that a call sets lent as a
-//! reference. A call that is turned back leaves all of them as they were, except for what [`walk_text`] prints.
+//! The sixteen calls with every area lent as a slice of any length, and every word that a call sets lent as a
+//! reference. A call that is turned back leaves all of them as they were.
 //!
 //! `before` lists the elements already on the blank, strictly rising: it may have any length, and none is too short.
 //!
@@ -89,8 +89,8 @@ pub fn to_array(
 /// Prints the folded walk of the profile that a text says, and sets `printed` to the number of bytes printed.
 ///
 /// Areas, whatever the text: 5,000 after words, 4,000 tail words, 5,000 marks, 54,003 event words, 180,066 bytes of
-/// output. Numbers: 13, 12, 1, 2, 3, 4, 6. A text that is turned back prints one line, as `refused,6`, where the
-/// output has room for it, else nothing; `printed` is set even then.
+/// output. Numbers: 13, 12, 1, 2, 3, 4, 6. A text that is turned back prints nothing; [`refusal_line`] prints its
+/// line.
 pub fn walk_text(
     text: &[u8],
     after: &mut [u16],
@@ -117,6 +117,17 @@ pub fn walk_text(
             output.len(),
             printed,
         )
+    })
+}
+
+/// Prints the line of a refusal, as `refused,6` and a line feed, at the front of the output, and sets `printed` to the
+/// number of its bytes.
+///
+/// Area: as many bytes of output as the line has; 14 serve every number. Numbers: 3.
+pub fn refusal_line(number: u16, output: &mut [u8], printed: &mut usize) -> Result<(), Refusal> {
+    // SAFETY: the slice and the word are valid, aligned and non-null; they do not overlap.
+    outcome(unsafe {
+        raw::profile_walker_refusal_line(number, output.as_mut_ptr(), output.len(), printed)
     })
 }
 

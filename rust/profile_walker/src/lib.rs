@@ -46,7 +46,9 @@ mod walks;
 pub use areas::{check_image, to_array, walk_text};
 pub use folded::{open, roll_back, run, step, Ran, Reason, MAX_MOVES, MOVE_EVENTS, OPEN_EVENTS};
 pub use panel::{accept, shift_start};
-pub use profiles::{read_profile, text_areas, Profile, MAX_M, MAX_N, MAX_TEXT};
+pub use profiles::{
+    read_profile, refusal_line, text_areas, Profile, MAX_M, MAX_N, MAX_TEXT, REFUSAL_BYTES,
+};
 pub use refusal::Refusal;
 pub use state::{phase, State, STATE_WORDS};
 pub use walks::{

@@ -10,6 +10,9 @@ pub const MAX_M: u16 = 4_000;
 /// The most bytes of a text.
 pub const MAX_TEXT: usize = 65_536;
 
+/// The bytes that serve [`refusal_line`], whatever the number.
+pub const REFUSAL_BYTES: usize = 14;
+
 /// The words that serve [`walk_text`](crate::walk_text), whatever the text.
 pub mod text_areas {
     /// After words.
@@ -44,4 +47,14 @@ pub fn read_profile(text: &[u8], after: &mut [u16], tail: &mut [u16]) -> Result<
     let (mut n, mut m, mut start) = (0, 0, 0);
     areas::read_profile(text, after, tail, &mut n, &mut m, &mut start)?;
     Ok(Profile { n, m, start })
+}
+
+/// Prints the line of a refusal, as `refused,6` and a line feed, at the front of the output; the number of its bytes.
+///
+/// Area: as many bytes of output as the line has; [`REFUSAL_BYTES`] serve every number.
+/// Numbers: 3.
+pub fn refusal_line(refusal: Refusal, output: &mut [u8]) -> Result<usize, Refusal> {
+    let mut printed = 0;
+    areas::refusal_line(refusal.0, output, &mut printed)?;
+    Ok(printed)
 }

@@ -53,6 +53,13 @@ extern "C" {
         printed: *mut usize,
     ) -> u16;
 
+    pub fn profile_walker_refusal_line(
+        number: u16,
+        output: *mut u8,
+        output_bytes: usize,
+        printed: *mut usize,
+    ) -> u16;
+
     pub fn profile_walker_dfs_recursive(
         n: u16,
         m: u16,

@@ -2,8 +2,8 @@
 
 use profile_walker::{
     accept, areas, bfs_folded, bfs_queue, check_image, dfs_array, dfs_parent, dfs_recursive, kind,
-    open, phase, read_profile, roll_back, run, shift_start, step, text_areas, to_array, walk_text,
-    Ran, Reason, Refusal, State, MAX_MOVES,
+    open, phase, read_profile, refusal_line, roll_back, run, shift_start, step, text_areas,
+    to_array, walk_text, Ran, Reason, Refusal, State, MAX_MOVES, REFUSAL_BYTES,
 };
 
 const TEXT: &[u8] = b"elements,references,start\n3,4,1\nfrom,to\n1,2\n1,3\n2,3\n3,1\n";
@@ -115,6 +115,7 @@ fn the_walk_is_printed() {
     assert_eq!(&output[..printed], PRINTED.as_bytes());
 
     let text = b"elements,references,start\n2,1,1\nfrom,to\n1,3\n";
+    let left = (printed, output.clone());
     let outcome = walk_text(
         text,
         &mut after,
@@ -125,7 +126,14 @@ fn the_walk_is_printed() {
         &mut printed,
     );
     assert_eq!(outcome, Err(Refusal(6)));
-    assert_eq!(&output[..printed], b"refused,6\n");
+    assert_eq!((printed, output), left);
+    let mut line = [b'?'; REFUSAL_BYTES];
+    assert_eq!(refusal_line(Refusal(6), &mut line), Ok(10));
+    assert_eq!(&line, b"refused,6\n????");
+    assert_eq!(refusal_line(Refusal(13), &mut line[..10]), Err(Refusal(3)));
+    assert_eq!(&line, b"refused,6\n????");
+    assert_eq!(refusal_line(Refusal(65_535), &mut line), Ok(REFUSAL_BYTES));
+    assert_eq!(&line, b"refused,65535\n");
     assert_eq!(Refusal(6).to_string(), "refused,6");
 }
 

@@ -29,7 +29,7 @@ pub use folded::{
 pub use image::{check_image, Profile, Reference};
 pub use panel::{accept, shift_start};
 pub use picture::{Walk, Words};
-pub use printed::walk_text;
+pub use printed::{refusal_line, walk_text};
 pub use reach::Reach;
 pub use search::{breadth_first, depth_first, Event, Search, TreeReference};
 pub use text::read_profile;

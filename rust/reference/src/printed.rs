@@ -24,15 +24,7 @@ pub fn walk_text(
         || output.len() < 180_066;
     let (profile, start) = match profile(text, |_| short) {
         Ok(read) => read,
-        Err(number) => {
-            let line = format!("refused,{number}\n");
-            *printed = if line.len() <= output.len() {
-                put(output, &line)
-            } else {
-                0
-            };
-            return number;
-        }
+        Err(number) => return number,
     };
 
     let search = depth_first(&profile, start, &[]);
@@ -56,6 +48,16 @@ pub fn walk_text(
     }
     let words = search.events.concat();
     events[..words.len()].copy_from_slice(&words);
+    0
+}
+
+/// Prints the line of a refusal.
+pub fn refusal_line(number: u16, output: &mut [u8], printed: &mut usize) -> u16 {
+    let line = format!("refused,{number}\n");
+    if output.len() < line.len() {
+        return 3;
+    }
+    *printed = put(output, &line);
     0
 }
 

@@ -69,5 +69,6 @@ fn main() -> Result<()> {
     write(folder, "refused", "texts", &refused::text_numbers())?;
     write(folder, "refused", "images", &refused::images())?;
     write(folder, "refused", "lists", &refused::lists())?;
-    write(folder, "refused", "arrays", &refused::arrays())
+    write(folder, "refused", "arrays", &refused::arrays())?;
+    write(folder, "refused", "lines", &refused::lines())
 }

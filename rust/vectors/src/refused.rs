@@ -1,8 +1,8 @@
-//! Texts, images, array forms, and lists of elements already on the blank that are turned back.
+//! Texts, images, array forms, and lists of elements already on the blank that are turned back; the lines of refusals.
 
 use profile_walker::{
-    bfs_folded, bfs_queue, check_image, dfs_array, dfs_parent, dfs_recursive, open, read_profile,
-    to_array,
+    areas, bfs_folded, bfs_queue, check_image, dfs_array, dfs_parent, dfs_recursive, open,
+    read_profile, to_array,
 };
 use std::fmt::Write;
 
@@ -225,6 +225,35 @@ pub fn arrays() -> String {
         let number = walked.map_or_else(|k| k.0, |_| 0);
         let [firsts, tails, before] = [&firsts, &tails, before].map(spaced);
         writeln!(rows, "3,4,{start},{firsts},{tails},{before},{number}").unwrap();
+    }
+    rows
+}
+
+/// Refusals with what is printed of each: the number, the bytes lent, which are dots, and the word for the bytes
+/// printed; then what the call returns, that word, and the bytes as it leaves them.
+pub fn lines() -> String {
+    let mut rows = String::from("refusal,bytes,word,number,printed,output\n");
+    let exact = [
+        0, 1, 6, 9, 10, 12, 13, 99, 100, 999, 1000, 9999, 10_000, 65_535,
+    ]
+    .map(|refusal: u16| (refusal, format!("refused,{refusal}\n").len()));
+    let others = [
+        (6, 0),
+        (6, 9),
+        (6, 11),
+        (6, 14),
+        (12, 10),
+        (65_535, 13),
+        (65_535, 20),
+    ];
+    for (refusal, bytes) in exact.into_iter().chain(others) {
+        let mut output = vec![b'.'; bytes];
+        let mut printed = 77;
+        let refused = areas::refusal_line(refusal, &mut output, &mut printed);
+        let number = refused.map_or_else(|k| k.0, |()| 0);
+        let output: Vec<_> = output.into_iter().map(u16::from).collect();
+        let output = spaced(&output);
+        writeln!(rows, "{refusal},{bytes},77,{number},{printed},{output}").unwrap();
     }
     rows
 }

@@ -19,10 +19,10 @@ use Rattle.walks.proofs.emit.Reads as emit-reads
 use Rattle.walks.proofs.label.Reads as label-reads
 
 abbrev Inv-loop : tie.InvT-loop
-Inv-loop n m start v f after₀ tail marks₀ events₀ t₀ last₀ e₀ i a₀ after marks events t last e a = ScanKept n m start v f after₀ tail marks₀ events₀ t₀ after marks events t last e a
+Inv-loop n m v f after₀ tail marks₀ events₀ t₀ last₀ e₀ i a₀ after marks events t last e a = ScanKept n m (v .0) f after₀ tail marks₀ events₀ t₀ after marks events t last e a
 
 abbrev μ-loop : tie.MeasureT-loop
-μ-loop n m start v f after₀ tail marks₀ events₀ t₀ last₀ e₀ i a₀ after marks events t last e a = 10000 - total t
+μ-loop n m v f after₀ tail marks₀ events₀ t₀ last₀ e₀ i a₀ after marks events t last e a = 10000 - total t
 
 sub-i : tie.Need-sub-i Inv-loop μ-loop
 sub-i c = let f = scan-first (c .before .before .before .before .pre .is) in omega arith
@@ -34,7 +34,7 @@ slice-read-a : tie.Need-slice-read-a Inv-loop μ-loop
 slice-read-a c = let f = scan-first (c .before .before .before .before .before .pre .is) in omega arith
 
 loop-holds : tie.Need-loop-holds Inv-loop μ-loop
-loop-holds c = (refl, λ before after₀ marks₀ events₀ F. scan-start F)
+loop-holds c = (refl, λ before start after₀ marks₀ events₀ F. scan-start F)
 
 emit-requires : tie.Need-emit-requires Inv-loop μ-loop
 emit-requires c κs = search needs
@@ -95,13 +95,13 @@ mul-a-2 c = let k = some-ahead (c .before .before .before .before .before .befor
 
 -- A turn keeps what the loop keeps, by either arm of its test.
 turned : (c : lts.After-slice-known9 (emit-reads.Asked, emit-reads.Learnt, label-reads.Asked, label-reads.Learnt, last-node-reads.Asked, last-node-reads.Learnt) reads.Pre reads.Post Inv-loop μ-loop)
-    → (before after₀ marks₀ events₀ : List ℕ)
+    → (before : List ℕ) (start : ℕ) (after₀ marks₀ events₀ : List ℕ)
     → (let s = c .before .before .before .before .before .before .before .before .before .before .before .before .before .before .before .args in let l = c .before .before .before .before .before .before .before .before .before .loop in let j = c .before .if1 in
-    FoldedAt (image (s .n) (s .m) after₀ (s .tail .now)) before (s .start) (s .v) (s .f) marks₀ events₀ (s .after .now) (s .marks .now) (s .events .now) (s .tally)
-    → Turned (image (s .n) (s .m) after₀ (s .tail .now)) before (s .start) (s .v) marks₀ events₀ (s .tally) (l .t) (j .after) (j .marks) (j .events) (j .t) (j .last) (l .a))
-turned c before after₀ marks₀ events₀ F =
+    FoldedAt (image (s .n) (s .m) after₀ (s .tail .now)) before start (s .v .0) (s .f) marks₀ events₀ (s .after .now) (s .marks .now) (s .events .now) (s .tally)
+    → Turned (image (s .n) (s .m) after₀ (s .tail .now)) before start (s .v .0) marks₀ events₀ (s .tally) (l .t) (j .after) (j .marks) (j .events) (j .t) (j .last) (l .a))
+turned c before start after₀ marks₀ events₀ F =
     let l = c .before .before .before .before .before .before .before .before .before .loop in
-    let P = l .inv .1 before after₀ marks₀ events₀ F in
+    let P = l .inv .1 before start after₀ marks₀ events₀ F in
     let test = c .before .before .before .before .before .before .before .before .loop-test .taken in
     let E = c .before .before .before .before .before .before .emit .ensures in
     ⊎-elim
@@ -110,13 +110,13 @@ turned c before after₀ marks₀ events₀ F =
     (c .before .if1 .came)
 
 slice-read-a-2 : tie.Need-slice-read-a-2 Inv-loop μ-loop
-slice-read-a-2 c = let p = c .before .before .before .before .before .before .before .before .before .before .before .before .before .before .before .pre in let k = some-ahead p (c .before .before .before .before .before .before .before .before .before .loop .inv) (c .before .before .before .before .before .before .before .before .loop-test .taken) in let j = passing-lengths (p .is) (turned c (p .before) (p .after₀) (p .marks₀) (p .events₀) (p .is) .passing) in let l = passing-lengths (p .is) (some-passing p (c .before .before .before .before .before .before .before .before .before .loop .inv)) in omega arith
+slice-read-a-2 c = let p = c .before .before .before .before .before .before .before .before .before .before .before .before .before .before .before .pre in let k = some-ahead p (c .before .before .before .before .before .before .before .before .before .loop .inv) (c .before .before .before .before .before .before .before .before .loop-test .taken) in let j = passing-lengths (p .is) (turned c (p .before) (p .start) (p .after₀) (p .marks₀) (p .events₀) (p .is) .passing) in let l = passing-lengths (p .is) (some-passing p (c .before .before .before .before .before .before .before .before .before .loop .inv)) in omega arith
 
 loop-less : tie.Need-loop-less Inv-loop μ-loop
-loop-less c = let p = c .before .before .before .before .before .before .before .before .before .before .before .before .before .before .before .pre in let k = turned c (p .before) (p .after₀) (p .marks₀) (p .events₀) (p .is) in omega (arith, k .more, k .few)
+loop-less c = let p = c .before .before .before .before .before .before .before .before .before .before .before .before .before .before .before .pre in let k = turned c (p .before) (p .start) (p .after₀) (p .marks₀) (p .events₀) (p .is) in omega (arith, k .more, k .few)
 
 loop-again : tie.Need-loop-again Inv-loop μ-loop
-loop-again c = (refl, λ before after₀ marks₀ events₀ F. turned c before after₀ marks₀ events₀ F .passing)
+loop-again c = (refl, λ before start after₀ marks₀ events₀ F. turned c before start after₀ marks₀ events₀ F .passing)
 
 emit-requires-2 : tie.Need-emit-requires-2 Inv-loop μ-loop
 emit-requires-2 c κs = search needs
@@ -131,9 +131,46 @@ same-length-3 : tie.Need-same-length-3 Inv-loop μ-loop
 same-length-3 c = c .before .before .emit2 .kept .0 ∙ some-lengths (c .before .before .before .before .before .before .before .before .before .before .before .pre) (c .before .before .before .before .before .loop .inv) .1 .1
 
 returns : tie.Need-returns Inv-loop μ-loop
-returns c = λ before after₀ marks₀ events₀ F. scan-end F (c .before .before .before .before .before .loop .inv .1 before after₀ marks₀ events₀ F) (c .before .before .before .before .before .loop .inv .0) (c .before .before .before .before .loop-test .left) (c .before .before .emit2 .ensures)
+returns c = λ before start after₀ marks₀ events₀ F. scan-end F (c .before .before .before .before .before .loop .inv .1 before start after₀ marks₀ events₀ F) (c .before .before .before .before .before .loop .inv .0) (c .before .before .before .before .loop-test .left) (c .before .before .emit2 .ensures)
+
+cast-i : tie.Need-cast-i Inv-loop μ-loop
+cast-i c = search needs
 
 pub scan-vertex-spec : {M : Type 1} → statement M
 scan-vertex-spec =
     tie.close
-    (tie.spec Inv-loop μ-loop sub-i mul-a slice-read-a loop-holds emit-requires cast-j sub-j sub-j-2 mul-x shared-slice-read-x cast-l sub-l mul-if1 slice-read-if1 label-requires cast-k sub-k mul-after slice-write-after last-node-requires cast-k-2 sub-k-2 mul-a-2 slice-read-a-2 loop-less loop-again emit-requires-2 same-length same-length-2 same-length-3 returns)
+    (tie.spec
+    Inv-loop
+    μ-loop
+    cast-i
+    sub-i
+    mul-a
+    slice-read-a
+    loop-holds
+    emit-requires
+    cast-j
+    sub-j
+    sub-j-2
+    mul-x
+    shared-slice-read-x
+    cast-l
+    sub-l
+    mul-if1
+    slice-read-if1
+    label-requires
+    cast-k
+    sub-k
+    mul-after
+    slice-write-after
+    last-node-requires
+    cast-k-2
+    sub-k-2
+    mul-a-2
+    slice-read-a-2
+    loop-less
+    loop-again
+    emit-requires-2
+    same-length
+    same-length-2
+    same-length-3
+    returns)

@@ -9,10 +9,10 @@ use Rattle.breadth_folded.proofs.search.Statement.{statement}
 use Rattle.breadth_folded.proofs.search.Tie as tie
 
 abbrev Inv-loop : tie.InvT-loop
-Inv-loop n m start after₀ tail before marks₀ events₀ tally₀ f₀ v₀ after marks events tally f v = SearchKept n m start after₀ tail marks₀ events₀ tally₀ f₀ v₀ after marks events tally f v
+Inv-loop n m after₀ tail before marks₀ events₀ tally₀ v₀ f₀ after marks events tally v f = SearchKept n m after₀ tail marks₀ events₀ tally₀ f₀ v₀ after marks events tally f v
 
 abbrev μ-loop : tie.MeasureT-loop
-μ-loop n m start after₀ tail before marks₀ events₀ tally₀ f₀ v₀ after marks events tally f v = 10000 - total tally
+μ-loop n m after₀ tail before marks₀ events₀ tally₀ v₀ f₀ after marks events tally v f = 10000 - total tally
 
 add-begin : tie.Need-add-begin Inv-loop μ-loop
 add-begin c = let k = search-few (c .before .before .before .before .before .before .before .pre) in omega arith
@@ -24,7 +24,7 @@ last-node-requires : tie.Need-last-node-requires Inv-loop μ-loop
 last-node-requires c κs = search-ends (c .before .before .before .before .before .before .before .before .before .before .before .before .before .pre)
 
 loop-holds : tie.Need-loop-holds Inv-loop μ-loop
-loop-holds c = λ before marks₀ events₀ F. search-start F
+loop-holds c = λ before start marks₀ events₀ F. search-start F
 
 scan-vertex-requires : tie.Need-scan-vertex-requires Inv-loop μ-loop
 scan-vertex-requires c κs = some-next (c .before .before .before .before .before .before .before .before .before .before .before .before .before .before .before .before .before .before .before .pre) (c .before .before .before .before .before .before .before .before .before .before .before .begin .ensures) (c .before .before .before .before .before .last-node .ensures) (c .before .before .before .before .loop .inv) (c .before .before .before .loop-test .taken)

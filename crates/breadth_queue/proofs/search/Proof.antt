@@ -10,10 +10,10 @@ use Rattle.breadth_queue.proofs.search.Statement.{statement}
 use Rattle.breadth_queue.proofs.search.Tie as tie
 
 abbrev Inv-loop : tie.InvT-loop
-Inv-loop n m start after tail before marks₀ queue₀ events₀ tally₀ i₀ marks queue events tally i = SearchKept (image n m after tail) before start i₀ marks₀ queue₀ events₀ tally₀ i marks queue events tally
+Inv-loop n m after tail before marks₀ queue₀ events₀ tally₀ i₀ marks queue events tally i = SearchKept (image n m after tail) before i₀ marks₀ queue₀ events₀ tally₀ i marks queue events tally
 
 abbrev μ-loop : tie.MeasureT-loop
-μ-loop n m start after tail before marks₀ queue₀ events₀ tally₀ i₀ marks queue events tally i = 10000 - total tally
+μ-loop n m after tail before marks₀ queue₀ events₀ tally₀ i₀ marks queue events tally i = 10000 - total tally
 
 clear-requires : tie.Need-clear-requires Inv-loop μ-loop
 clear-requires c κs = search needs
@@ -28,7 +28,7 @@ slice-write-queue : tie.Need-slice-write-queue Inv-loop μ-loop
 slice-write-queue c = let z = c .before .before .before .before .before .before .before .before .before .before .before .before .before .before .before .before .before .pre in omega (arith, c .before .before .before .before .before .before .before .before .before .clear .kept .0, z .long, z .start-vertex)
 
 loop-holds : tie.Need-loop-holds Inv-loop μ-loop
-loop-holds c = λ ms qs es a. a
+loop-holds c = λ s ms qs es a. a
 
 array-read-loop : tie.Need-array-read-loop Inv-loop μ-loop
 array-read-loop c = search needs
@@ -36,11 +36,11 @@ array-read-loop c = search needs
 cast-loop : tie.Need-cast-loop Inv-loop μ-loop
 cast-loop c = let f = at-few (search-at (c .before .before .before .before .before .before .before .before .before .before .before .before .before .before .before .before .before .before .pre) (c .before .before .before .before .before .before .before .before .before .before .clear .ensures) (c .before .before .before .before .before .begin .ensures) (c .loop .inv)) in omega arith
 
-mul-v : tie.Need-mul-v Inv-loop μ-loop
-mul-v c = let f = at-few (search-at (c .before .before .before .before .before .before .before .before .before .before .before .before .before .before .before .before .before .before .before .pre) (c .before .before .before .before .before .before .before .before .before .before .before .clear .ensures) (c .before .before .before .before .before .before .begin .ensures) (c .before .loop .inv)) in omega arith
+mul-x : tie.Need-mul-x Inv-loop μ-loop
+mul-x c = let f = at-few (search-at (c .before .before .before .before .before .before .before .before .before .before .before .before .before .before .before .before .before .before .before .pre) (c .before .before .before .before .before .before .before .before .before .before .before .clear .ensures) (c .before .before .before .before .before .before .begin .ensures) (c .before .loop .inv)) in omega arith
 
-slice-read-v : tie.Need-slice-read-v Inv-loop μ-loop
-slice-read-v c = let f = at-few (search-at (c .before .before .before .before .before .before .before .before .before .before .before .before .before .before .before .before .before .before .before .before .pre) (c .before .before .before .before .before .before .before .before .before .before .before .before .clear .ensures) (c .before .before .before .before .before .before .before .begin .ensures) (c .before .before .loop .inv)) in omega arith
+slice-read-x : tie.Need-slice-read-x Inv-loop μ-loop
+slice-read-x c = let f = at-few (search-at (c .before .before .before .before .before .before .before .before .before .before .before .before .before .before .before .before .before .before .before .before .pre) (c .before .before .before .before .before .before .before .before .before .before .before .before .clear .ensures) (c .before .before .before .before .before .before .before .begin .ensures) (c .before .before .loop .inv)) in omega arith
 
 scan-vertex-requires : tie.Need-scan-vertex-requires Inv-loop μ-loop
 scan-vertex-requires c κs = search-scan (search-at (c .before .before .before .before .before .before .before .before .before .before .before .before .before .before .before .before .before .before .before .before .before .before .before .pre) (c .before .before .before .before .before .before .before .before .before .before .before .before .before .before .before .clear .ensures) (c .before .before .before .before .before .before .before .before .before .before .begin .ensures) (c .before .before .before .before .before .loop .inv)) (c .before .before .before .before .loop-test .taken)
@@ -49,10 +49,10 @@ add-i : tie.Need-add-i Inv-loop μ-loop
 add-i c = let f = at-few (search-at (c .before .before .before .before .before .before .before .before .before .before .before .before .before .before .before .before .before .before .before .before .before .before .before .before .before .before .before .before .before .before .pre) (c .before .before .before .before .before .before .before .before .before .before .before .before .before .before .before .before .before .before .before .before .before .before .clear .ensures) (c .before .before .before .before .before .before .before .before .before .before .before .before .before .before .before .before .before .begin .ensures) (c .before .before .before .before .before .before .before .before .before .before .before .before .loop .inv)) in omega arith
 
 loop-less : tie.Need-loop-less Inv-loop μ-loop
-loop-less c = let s = search-less (c .before .before .before .before .before .before .scan-vertex .ensures _ _ _ _ _ (search-at (c .before .before .before .before .before .before .before .before .before .before .before .before .before .before .before .before .before .before .before .before .before .before .before .before .before .before .before .before .before .before .pre) (c .before .before .before .before .before .before .before .before .before .before .before .before .before .before .before .before .before .before .before .before .before .before .clear .ensures) (c .before .before .before .before .before .before .before .before .before .before .before .before .before .before .before .before .before .begin .ensures) (c .before .before .before .before .before .before .before .before .before .before .before .before .loop .inv))) in omega arith
+loop-less c = let s = search-less (c .before .before .before .before .before .before .scan-vertex .ensures _ _ _ _ _ _ (search-at (c .before .before .before .before .before .before .before .before .before .before .before .before .before .before .before .before .before .before .before .before .before .before .before .before .before .before .before .before .before .before .pre) (c .before .before .before .before .before .before .before .before .before .before .before .before .before .before .before .before .before .before .before .before .before .before .clear .ensures) (c .before .before .before .before .before .before .before .before .before .before .before .before .before .before .before .before .before .begin .ensures) (c .before .before .before .before .before .before .before .before .before .before .before .before .loop .inv))) in omega arith
 
 loop-again : tie.Need-loop-again Inv-loop μ-loop
-loop-again c = λ ms qs es a. search-more (c .before .before .before .before .before .before .scan-vertex .ensures _ _ _ _ _ (c .before .before .before .before .before .before .before .before .before .before .before .before .loop .inv ms qs es a))
+loop-again c = λ s ms qs es a. search-more (c .before .before .before .before .before .before .scan-vertex .ensures _ _ _ _ _ _ (c .before .before .before .before .before .before .before .before .before .before .before .before .loop .inv s ms qs es a))
 
 same-length : tie.Need-same-length Inv-loop μ-loop
 same-length c = at-lengths (search-at (c .before .before .before .before .before .before .before .before .before .before .before .before .before .before .before .before .before .before .before .pre) (c .before .before .before .before .before .before .before .before .before .before .before .clear .ensures) (c .before .before .before .before .before .before .begin .ensures) (c .before .loop .inv)) .0
@@ -79,8 +79,8 @@ search-spec =
     loop-holds
     array-read-loop
     cast-loop
-    mul-v
-    slice-read-v
+    mul-x
+    slice-read-x
     scan-vertex-requires
     add-i
     loop-less

@@ -3,15 +3,18 @@
 use Prim.Native.Nat.{_≤_, _-_}
 use native.Mathlib.Omega.{arith}
 use Rattle.images.specs.Checking.{image}
-use Rattle.depth_parent.proofs.Parents.{Goes, advance-few, goes-some, goes-lengths, goes-then}
+use Rattle.walks.specs.Writing.{total}
+use Rattle.depth_parent.specs.Parents.{Goes}
+use Rattle.depth_parent.proofs.Parents.{advance-few, goes-some, goes-lengths, goes-then}
 use Rattle.depth_parent.proofs.descend.Statement.{statement}
 use Rattle.depth_parent.proofs.descend.Tie as tie
 
 abbrev Inv-loop : tie.InvT-loop
-Inv-loop n m start after tail marks₀ parents₀ events₀ q₀ marks parents events q = Goes (image n m after tail) start marks₀ parents₀ events₀ q₀ marks parents events q × (q₀ .progress .events ≤ q .progress .events)
+Inv-loop n m start after tail marks₀ parents₀ events₀ q₀ marks parents events q =
+    Goes (image n m after tail) (start .0) marks₀ parents₀ events₀ q₀ marks parents events q × (total (q₀ .tally) ≤ total (q .tally))
 
 abbrev μ-loop : tie.MeasureT-loop
-μ-loop n m start after tail marks₀ parents₀ events₀ q₀ marks parents events q = 10000 - q .progress .events
+μ-loop n m start after tail marks₀ parents₀ events₀ q₀ marks parents events q = 10000 - total (q .tally)
 
 loop-holds : tie.Need-loop-holds Inv-loop μ-loop
 loop-holds c = (λ before marks₀ parents₀ events₀ A. A, omega arith)

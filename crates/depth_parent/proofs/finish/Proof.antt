@@ -3,15 +3,17 @@
 use Prim.Native.Nat.{_-_}
 use native.Mathlib.Omega.{arith}
 use Rattle.images.specs.Checking.{image}
-use Rattle.depth_parent.proofs.Parents.{Goes, retreat-few, goes-some, goes-lengths, goes-then}
+use Rattle.walks.specs.Writing.{total}
+use Rattle.depth_parent.specs.Parents.{Goes}
+use Rattle.depth_parent.proofs.Parents.{retreat-few, goes-some, goes-lengths, goes-then}
 use Rattle.depth_parent.proofs.finish.Statement.{statement}
 use Rattle.depth_parent.proofs.finish.Tie as tie
 
 abbrev Inv-loop : tie.InvT-loop
-Inv-loop n m start after tail marks₀ parents₀ events₀ q₀ marks parents events q = Goes (image n m after tail) start marks₀ parents₀ events₀ q₀ marks parents events q
+Inv-loop n m start after tail marks₀ parents₀ events₀ q₀ marks parents events q = Goes (image n m after tail) (start .0) marks₀ parents₀ events₀ q₀ marks parents events q
 
 abbrev μ-loop : tie.MeasureT-loop
-μ-loop n m start after tail marks₀ parents₀ events₀ q₀ marks parents events q = 10000 - q .progress .events
+μ-loop n m start after tail marks₀ parents₀ events₀ q₀ marks parents events q = 10000 - total (q .tally)
 
 loop-holds : tie.Need-loop-holds Inv-loop μ-loop
 loop-holds c = λ before marks₀ parents₀ events₀ A. A
@@ -43,4 +45,15 @@ loop-again c = goes-then (c .before .before .before .before .before .before .bef
 pub finish-spec : {M : Type 1} → statement M
 finish-spec =
     tie.close
-    (tie.spec Inv-loop μ-loop loop-holds descend-requires same-length same-length-2 same-length-3 returns retreat-requires loop-less loop-again)
+    (tie.spec
+    Inv-loop
+    μ-loop
+    loop-holds
+    descend-requires
+    same-length
+    same-length-2
+    same-length-3
+    returns
+    retreat-requires
+    loop-less
+    loop-again)

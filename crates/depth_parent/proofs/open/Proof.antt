@@ -17,25 +17,39 @@ begin-requires c κs = search needs
 sub-i : tie.Need-sub-i
 sub-i c = search needs
 
-mul-t21 : tie.Need-mul-t21
-mul-t21 c = search needs
+mul-first : tie.Need-mul-first
+mul-first c = search needs
 
-shared-slice-read-t23 : tie.Need-shared-slice-read-t23
-shared-slice-read-t23 c = search needs
+shared-slice-read-first : tie.Need-shared-slice-read-first
+shared-slice-read-first c = search needs
 
 same-length : tie.Need-same-length
-same-length c = search needs
+same-length c = c .before .before .before .before .before .before .begin .kept .0
 
 same-length-2 : tie.Need-same-length-2
-same-length-2 c = search needs
+same-length-2 c = c .before .before .before .before .before .before .before .before .before .before .before .clear .kept .0
 
 same-length-3 : tie.Need-same-length-3
-same-length-3 c = search needs
+same-length-3 c = c .before .before .before .before .before .before .begin .kept .1 .0
 
 returns : tie.Need-returns
-returns c = open-at (c .before .before .before .before .before .before .before .before .before .before .before .before .before .before .before .before .before .before .pre) (c .before .before .before .before .before .before .before .before .before .before .clear .ensures) (c .before .before .before .before .before .begin .ensures)
+returns c = open-at (c .before .before .before .before .before .before .before .before .before .before .before .before .before .before .before .before .before .before .before .pre) (c .before .before .before .before .before .before .before .before .before .before .before .clear .ensures) (c .before .before .before .before .before .before .begin .ensures)
+
+cast-i : tie.Need-cast-i
+cast-i c = search needs
 
 pub open-spec : {M : Type 1} → statement M
 open-spec =
     tie.close
-    (tie.spec clear-requires add-begin begin-requires sub-i mul-t21 shared-slice-read-t23 same-length same-length-2 same-length-3 returns)
+    (tie.spec
+    clear-requires
+    add-begin
+    begin-requires
+    cast-i
+    sub-i
+    mul-first
+    shared-slice-read-first
+    same-length
+    same-length-2
+    same-length-3
+    returns)

@@ -1,5 +1,6 @@
 -- The whole search.
 -- It begins at the first place and has come to the last; the scan of the start is the last event.
+use mathlib.Core.Path.{_∙_}
 use borrow.Author.Needs.{needs}
 use Rattle.depth_parent.proofs.Parents.{some-at, search-ends}
 use Rattle.depth_parent.proofs.search.Statement.{statement}
@@ -15,21 +16,18 @@ emit-requires : tie.Need-emit-requires
 emit-requires c κs = search needs
 
 same-length : tie.Need-same-length
-same-length c = search needs
+same-length c = c .before .before .before .before .before .before .before .before .before .before .before .finish .kept .1 .1 .1 .1 .1 .0 ∙ c .before .before .before .before .before .before .before .before .before .before .before .before .before .before .before .before .before .before .before .before .before .«open» .kept .1 .1 .1 .1 .1 .1 .0
 
 same-length-2 : tie.Need-same-length-2
-same-length-2 c = search needs
+same-length-2 c = c .before .before .before .before .before .before .before .before .before .before .before .finish .kept .1 .1 .1 .1 .1 .1 .0 ∙ c .before .before .before .before .before .before .before .before .before .before .before .before .before .before .before .before .before .before .before .before .before .«open» .kept .1 .1 .1 .1 .1 .1 .1 .0
 
 same-length-3 : tie.Need-same-length-3
-same-length-3 c = search needs
+same-length-3 c = c .before .before .emit .kept .0 ∙ c .before .before .before .before .before .before .before .before .before .before .before .finish .kept .1 .1 .1 .1 .1 .1 .1 .0 ∙ c .before .before .before .before .before .before .before .before .before .before .before .before .before .before .before .before .before .before .before .before .before .«open» .kept .1 .1 .1 .1 .1 .1 .1 .1 .0
 
 returns : tie.Need-returns
-returns c = search-ends (c .before .before .before .before .before .before .before .before .before .before .before .before .finish .ensures .0 _ _ _ _ (c .before .before .before .before .before .before .before .before .before .before .before .before .before .before .before .before .before .before .before .before .before .before .«open» .ensures)) (c .before .before .before .before .before .before .before .before .before .before .before .before .finish .ensures .1 .0) (c .before .before .before .before .before .before .before .before .before .before .before .before .finish .ensures .1 .1) (c .before .before .before .emit .ensures) (c .tally .ensures)
-
-tally-requires : tie.Need-tally-requires
-tally-requires c κs = search needs
+returns c = search-ends (c .before .before .before .before .before .before .before .before .before .before .before .finish .ensures .0 _ _ _ _ (c .before .before .before .before .before .before .before .before .before .before .before .before .before .before .before .before .before .before .before .before .before .«open» .ensures)) (c .before .before .before .before .before .before .before .before .before .before .before .finish .ensures .1 .0) (c .before .before .before .before .before .before .before .before .before .before .before .finish .ensures .1 .1) (c .before .before .emit .ensures)
 
 pub search-spec : {M : Type 1} → statement M
 search-spec =
     tie.close
-    (tie.spec open-requires finish-requires emit-requires tally-requires same-length same-length-2 same-length-3 returns)
+    (tie.spec open-requires finish-requires emit-requires same-length same-length-2 same-length-3 returns)

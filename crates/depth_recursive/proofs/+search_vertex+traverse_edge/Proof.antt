@@ -5,6 +5,7 @@ use borrow.Author.Needs.{needs}
 use mathlib.Core.Path.{sym, _∙_}
 use Prim.Native.Nat.{ℕ, _+_, _-_, _*_, _<_}
 use native.Mathlib.Omega.{arith}
+use lib.ListN.{getD}
 use Rattle.graphs.proofs.Sound.{edgesLeft}
 use Rattle.images.specs.Checking.{image}
 use Rattle.depth_recursive.proofs.Recursion.{edge-reads, pass-held, tree-search, tree-can, tree-falls, tree-lengths, tree-held, search-lengths, search-reads, search-begins, search-falls, Loop, way-at, way-lengths, way-ends, way-edge, way-can, way-turns, way-falls}
@@ -16,16 +17,16 @@ use Rattle.depth_recursive.proofs.+search_vertex+traverse_edge.Lts-sear
 use Rattle.depth_recursive.proofs.traverse_edge.Reads as traverse-edge
 use Rattle.depth_recursive.proofs.traverse_edge.Kinds as traverse-edge-kinds
 use Rattle.depth_recursive.proofs.+search_vertex+traverse_edge.Lts-traverse_edge as traverse-edge-lts
-use Rattle.walks.proofs.depth.emit.Reads as emit-reads
-use Rattle.walks.proofs.depth.label.Reads as label-reads
+use Rattle.walks.proofs.emit.Reads as emit-reads
+use Rattle.walks.proofs.label.Reads as label-reads
 use Rattle.depth_recursive.proofs.+search_vertex+traverse_edge.{statement}
 use Rattle.depth_recursive.proofs.+search_vertex+traverse_edge.Tie.{close}
 
 abbrev μ-search-vertex : Measures 4 search-vertex-kinds.ps ℕ
-μ-search-vertex κs a = 2 * (a .0 - a .1 .1 .1 .1 .1 .1 .1 .0 .labels)
+μ-search-vertex κs a = 2 * (a .0 - getD (a .1 .1 .1 .1 .1 .1 .1 .0) 0 0)
 
 abbrev μ-traverse-edge : Measures 4 traverse-edge-kinds.ps ℕ
-μ-traverse-edge κs a = 2 * (a .0 - a .1 .1 .1 .1 .1 .1 .1 .1 .0 .labels) + 1
+μ-traverse-edge κs a = 2 * (a .0 - getD (a .1 .1 .1 .1 .1 .1 .1 .1 .0) 0 0) + 1
 
 abbrev search-vertex-at : ℕ → In 4 search-vertex-kinds.ps
 search-vertex-at t =
@@ -52,10 +53,10 @@ traverse-edge-below t =
     traverse-edge.Pre
 
 abbrev search-vertex-Inv-loop : search-vertex-lts.InvT-loop
-search-vertex-Inv-loop n m u after tail marks₁ events₁ v t₁ i r₁ marks events t r = Loop (image n m after tail) (u .0) marks₁ events₁ t₁ r₁ marks events t r
+search-vertex-Inv-loop n m u after tail marks₁ events₁ t₁ i r₁ marks events t r = Loop (image n m after tail) (u .0) marks₁ events₁ t₁ r₁ marks events t r
 
 abbrev search-vertex-μ-loop : search-vertex-lts.MeasureT-loop
-search-vertex-μ-loop n m u after tail marks₁ events₁ v t₁ i r₁ marks events t r = edgesLeft m after r
+search-vertex-μ-loop n m u after tail marks₁ events₁ t₁ i r₁ marks events t r = edgesLeft m after r
 
 search-vertex-label-requires : (t : ℕ) → search-vertex-lts.Need-label-requires (
   label-reads.Asked,
@@ -75,7 +76,7 @@ search-vertex-sub-i : (t : ℕ) → search-vertex-lts.Need-sub-i (
   emit-reads.Asked,
   emit-reads.Learnt,
 ) (search-vertex-at t) search-vertex.Post search-vertex-Inv-loop search-vertex-μ-loop
-search-vertex-sub-i t c = let f = search-reads (c .before .before .before .before .before .before .before .before .before .before .before .pre .1 .searching) in omega arith
+search-vertex-sub-i t c = let f = search-reads (c .before .before .before .before .before .before .before .before .before .before .before .before .pre .1 .searching) in omega arith
 
 search-vertex-cast-i : (t : ℕ) → search-vertex-lts.Need-cast-i (
   label-reads.Asked,
@@ -85,7 +86,7 @@ search-vertex-cast-i : (t : ℕ) → search-vertex-lts.Need-cast-i (
   emit-reads.Asked,
   emit-reads.Learnt,
 ) (search-vertex-at t) search-vertex.Post search-vertex-Inv-loop search-vertex-μ-loop
-search-vertex-cast-i t c = let f = search-reads (c .before .before .before .before .before .before .before .before .before .before .before .pre .1 .searching) in omega arith
+search-vertex-cast-i t c = let f = search-reads (c .before .before .before .before .before .before .before .before .before .before .before .before .pre .1 .searching) in omega arith
 
 search-vertex-mul-r : (t : ℕ) → search-vertex-lts.Need-mul-r (
   label-reads.Asked,
@@ -95,7 +96,7 @@ search-vertex-mul-r : (t : ℕ) → search-vertex-lts.Need-mul-r (
   emit-reads.Asked,
   emit-reads.Learnt,
 ) (search-vertex-at t) search-vertex.Post search-vertex-Inv-loop search-vertex-μ-loop
-search-vertex-mul-r t c = let f = search-reads (c .before .before .before .before .before .before .before .before .before .before .before .pre .1 .searching) in omega arith
+search-vertex-mul-r t c = let f = search-reads (c .before .before .before .before .before .before .before .before .before .before .before .before .pre .1 .searching) in omega arith
 
 search-vertex-shared-slice-read-r : (t : ℕ) → search-vertex-lts.Need-shared-slice-read-r (
   label-reads.Asked,
@@ -105,7 +106,7 @@ search-vertex-shared-slice-read-r : (t : ℕ) → search-vertex-lts.Need-shared-
   emit-reads.Asked,
   emit-reads.Learnt,
 ) (search-vertex-at t) search-vertex.Post search-vertex-Inv-loop search-vertex-μ-loop
-search-vertex-shared-slice-read-r t c = let f = search-reads (c .before .before .before .before .before .before .before .before .before .before .before .before .pre .1 .searching) in omega arith
+search-vertex-shared-slice-read-r t c = let f = search-reads (c .before .before .before .before .before .before .before .before .before .before .before .before .before .pre .1 .searching) in omega arith
 
 search-vertex-loop-holds : (t : ℕ) → search-vertex-lts.Need-loop-holds (
   label-reads.Asked,
@@ -126,8 +127,8 @@ search-vertex-traverse-edge-requires : (t : ℕ) → search-vertex-lts.Need-trav
   emit-reads.Learnt,
 ) (search-vertex-at t) search-vertex.Post search-vertex-Inv-loop search-vertex-μ-loop
 search-vertex-traverse-edge-requires t c κs =
-    let U = way-at (c .before .before .before .before .before .before .before .before .before .before .before .before .before .before .before .before .pre .1) (c .before .before .before .before .before .before .before .before .before .label .ensures) (c .before .before .before .loop .inv) in
-    (omega (arith, c .before .before .before .before .before .before .before .before .before .before .before .before .before .before .before .before .pre .0, search-falls (c .before .before .before .before .before .before .before .before .before .before .before .before .before .before .before .before .pre .1 .searching) U), way-can U (c .before .before .loop-test .taken))
+    let U = way-at (c .before .before .before .before .before .before .before .before .before .before .before .before .before .before .before .before .before .pre .1) (c .before .before .before .before .before .before .before .before .before .before .label .ensures) (c .before .before .before .loop .inv) in
+    (omega (arith, c .before .before .before .before .before .before .before .before .before .before .before .before .before .before .before .before .before .pre .0, search-falls (c .before .before .before .before .before .before .before .before .before .before .before .before .before .before .before .before .before .pre .1 .searching) U), way-can U (c .before .before .loop-test .taken))
 
 search-vertex-sub-j : (t : ℕ) → search-vertex-lts.Need-sub-j (
   label-reads.Asked,
@@ -138,7 +139,7 @@ search-vertex-sub-j : (t : ℕ) → search-vertex-lts.Need-sub-j (
   emit-reads.Learnt,
 ) (search-vertex-at t) search-vertex.Post search-vertex-Inv-loop search-vertex-μ-loop
 search-vertex-sub-j t c =
-    let U = way-at (c .before .before .before .before .before .before .before .before .before .before .before .before .before .before .before .before .before .before .before .before .before .pre .1) (c .before .before .before .before .before .before .before .before .before .before .before .before .before .before .label .ensures) (c .before .before .before .before .before .before .before .before .loop .inv) in
+    let U = way-at (c .before .before .before .before .before .before .before .before .before .before .before .before .before .before .before .before .before .before .before .before .before .before .pre .1) (c .before .before .before .before .before .before .before .before .before .before .before .before .before .before .before .label .ensures) (c .before .before .before .before .before .before .before .before .loop .inv) in
     let f = edge-reads (way-edge U (c .before .before .before .before .before .before .before .loop-test .taken)) in omega arith
 
 search-vertex-cast-j : (t : ℕ) → search-vertex-lts.Need-cast-j (
@@ -150,7 +151,7 @@ search-vertex-cast-j : (t : ℕ) → search-vertex-lts.Need-cast-j (
   emit-reads.Learnt,
 ) (search-vertex-at t) search-vertex.Post search-vertex-Inv-loop search-vertex-μ-loop
 search-vertex-cast-j t c =
-    let U = way-at (c .before .before .before .before .before .before .before .before .before .before .before .before .before .before .before .before .before .before .before .before .before .pre .1) (c .before .before .before .before .before .before .before .before .before .before .before .before .before .before .label .ensures) (c .before .before .before .before .before .before .before .before .loop .inv) in
+    let U = way-at (c .before .before .before .before .before .before .before .before .before .before .before .before .before .before .before .before .before .before .before .before .before .before .pre .1) (c .before .before .before .before .before .before .before .before .before .before .before .before .before .before .before .label .ensures) (c .before .before .before .before .before .before .before .before .loop .inv) in
     let f = edge-reads (way-edge U (c .before .before .before .before .before .before .before .loop-test .taken)) in omega arith
 
 search-vertex-mul-r-2 : (t : ℕ) → search-vertex-lts.Need-mul-r-2 (
@@ -162,7 +163,7 @@ search-vertex-mul-r-2 : (t : ℕ) → search-vertex-lts.Need-mul-r-2 (
   emit-reads.Learnt,
 ) (search-vertex-at t) search-vertex.Post search-vertex-Inv-loop search-vertex-μ-loop
 search-vertex-mul-r-2 t c =
-    let U = way-at (c .before .before .before .before .before .before .before .before .before .before .before .before .before .before .before .before .before .before .before .before .before .pre .1) (c .before .before .before .before .before .before .before .before .before .before .before .before .before .before .label .ensures) (c .before .before .before .before .before .before .before .before .loop .inv) in
+    let U = way-at (c .before .before .before .before .before .before .before .before .before .before .before .before .before .before .before .before .before .before .before .before .before .before .pre .1) (c .before .before .before .before .before .before .before .before .before .before .before .before .before .before .before .label .ensures) (c .before .before .before .before .before .before .before .before .loop .inv) in
     let f = edge-reads (way-edge U (c .before .before .before .before .before .before .before .loop-test .taken)) in omega arith
 
 search-vertex-shared-slice-read-r-2 : (t : ℕ) → search-vertex-lts.Need-shared-slice-read-r-2 (
@@ -174,7 +175,7 @@ search-vertex-shared-slice-read-r-2 : (t : ℕ) → search-vertex-lts.Need-share
   emit-reads.Learnt,
 ) (search-vertex-at t) search-vertex.Post search-vertex-Inv-loop search-vertex-μ-loop
 search-vertex-shared-slice-read-r-2 t c =
-    let U = way-at (c .before .before .before .before .before .before .before .before .before .before .before .before .before .before .before .before .before .before .before .before .before .before .pre .1) (c .before .before .before .before .before .before .before .before .before .before .before .before .before .before .before .label .ensures) (c .before .before .before .before .before .before .before .before .before .loop .inv) in
+    let U = way-at (c .before .before .before .before .before .before .before .before .before .before .before .before .before .before .before .before .before .before .before .before .before .before .before .pre .1) (c .before .before .before .before .before .before .before .before .before .before .before .before .before .before .before .before .label .ensures) (c .before .before .before .before .before .before .before .before .before .loop .inv) in
     let f = edge-reads (way-edge U (c .before .before .before .before .before .before .before .before .loop-test .taken)) in omega arith
 
 search-vertex-loop-less : (t : ℕ) → search-vertex-lts.Need-loop-less (
@@ -186,7 +187,7 @@ search-vertex-loop-less : (t : ℕ) → search-vertex-lts.Need-loop-less (
   emit-reads.Learnt,
 ) (search-vertex-at t) search-vertex.Post search-vertex-Inv-loop search-vertex-μ-loop
 search-vertex-loop-less t c =
-    let U = way-at (c .before .before .before .before .before .before .before .before .before .before .before .before .before .before .before .before .before .before .before .before .before .before .pre .1) (c .before .before .before .before .before .before .before .before .before .before .before .before .before .before .before .label .ensures) (c .before .before .before .before .before .before .before .before .before .loop .inv) in
+    let U = way-at (c .before .before .before .before .before .before .before .before .before .before .before .before .before .before .before .before .before .before .before .before .before .before .before .pre .1) (c .before .before .before .before .before .before .before .before .before .before .before .before .before .before .before .before .label .ensures) (c .before .before .before .before .before .before .before .before .before .loop .inv) in
     way-falls U (c .before .before .before .before .before .before .before .before .loop-test .taken)
 
 search-vertex-loop-again : (t : ℕ) → search-vertex-lts.Need-loop-again (
@@ -220,8 +221,8 @@ search-vertex-same-length : (t : ℕ) → search-vertex-lts.Need-same-length (
   emit-reads.Learnt,
 ) (search-vertex-at t) search-vertex.Post search-vertex-Inv-loop search-vertex-μ-loop
 search-vertex-same-length t c =
-    let U = way-at (c .before .before .before .before .before .before .before .before .before .before .before .before .before .before .before .before .before .before .pre .1) (c .before .before .before .before .before .before .before .before .before .before .before .label .ensures) (c .before .before .before .before .before .loop .inv) in
-    way-lengths U .0 ∙ sym (search-lengths (c .before .before .before .before .before .before .before .before .before .before .before .before .before .before .before .before .before .before .pre .1 .searching) .0)
+    let U = way-at (c .before .before .before .before .before .before .before .before .before .before .before .before .before .before .before .before .before .before .before .pre .1) (c .before .before .before .before .before .before .before .before .before .before .before .before .label .ensures) (c .before .before .before .before .before .loop .inv) in
+    way-lengths U .0 ∙ sym (search-lengths (c .before .before .before .before .before .before .before .before .before .before .before .before .before .before .before .before .before .before .before .pre .1 .searching) .0)
 
 search-vertex-same-length-2 : (t : ℕ) → search-vertex-lts.Need-same-length-2 (
   label-reads.Asked,
@@ -232,8 +233,8 @@ search-vertex-same-length-2 : (t : ℕ) → search-vertex-lts.Need-same-length-2
   emit-reads.Learnt,
 ) (search-vertex-at t) search-vertex.Post search-vertex-Inv-loop search-vertex-μ-loop
 search-vertex-same-length-2 t c =
-    let U = way-at (c .before .before .before .before .before .before .before .before .before .before .before .before .before .before .before .before .before .before .pre .1) (c .before .before .before .before .before .before .before .before .before .before .before .label .ensures) (c .before .before .before .before .before .loop .inv) in
-    c .before .before .emit .kept .0 ∙ way-lengths U .1 ∙ sym (search-lengths (c .before .before .before .before .before .before .before .before .before .before .before .before .before .before .before .before .before .before .pre .1 .searching) .1)
+    let U = way-at (c .before .before .before .before .before .before .before .before .before .before .before .before .before .before .before .before .before .before .before .pre .1) (c .before .before .before .before .before .before .before .before .before .before .before .before .label .ensures) (c .before .before .before .before .before .loop .inv) in
+    c .before .before .emit .kept .0 ∙ way-lengths U .1 ∙ sym (search-lengths (c .before .before .before .before .before .before .before .before .before .before .before .before .before .before .before .before .before .before .before .pre .1 .searching) .1)
 
 search-vertex-returns : (t : ℕ) → search-vertex-lts.Need-returns (
   label-reads.Asked,
@@ -244,7 +245,7 @@ search-vertex-returns : (t : ℕ) → search-vertex-lts.Need-returns (
   emit-reads.Learnt,
 ) (search-vertex-at t) search-vertex.Post search-vertex-Inv-loop search-vertex-μ-loop
 search-vertex-returns t c = λ before h marks₀ events₀ S.
-    way-ends (c .before .before .before .before .before .loop .inv before h marks₀ events₀ (search-begins S (c .before .before .before .before .before .before .before .before .before .before .before .label .ensures))) (c .before .before .before .before .loop-test .left) (c .before .before .emit .ensures)
+    way-ends (c .before .before .before .before .before .loop .inv before h marks₀ events₀ (search-begins S (c .before .before .before .before .before .before .before .before .before .before .before .before .label .ensures))) (c .before .before .before .before .loop-test .left) (c .before .before .emit .ensures)
 
 traverse-edge-sub-j : (t : ℕ) → traverse-edge-lts.Need-sub-j (
   emit-reads.Asked,
@@ -252,7 +253,7 @@ traverse-edge-sub-j : (t : ℕ) → traverse-edge-lts.Need-sub-j (
   search-vertex-below t,
   search-vertex.Post,
 ) (traverse-edge-at t) traverse-edge.Post
-traverse-edge-sub-j t c = let f = edge-reads (c .before .before .before .before .pre .1 .traversing) in omega arith
+traverse-edge-sub-j t c = let f = edge-reads (c .before .before .before .before .before .pre .1 .traversing) in omega arith
 
 traverse-edge-sub-j-2 : (t : ℕ) → traverse-edge-lts.Need-sub-j-2 (
   emit-reads.Asked,
@@ -260,7 +261,7 @@ traverse-edge-sub-j-2 : (t : ℕ) → traverse-edge-lts.Need-sub-j-2 (
   search-vertex-below t,
   search-vertex.Post,
 ) (traverse-edge-at t) traverse-edge.Post
-traverse-edge-sub-j-2 t c = let f = edge-reads (c .before .before .before .before .pre .1 .traversing) in omega arith
+traverse-edge-sub-j-2 t c = let f = edge-reads (c .before .before .before .before .before .pre .1 .traversing) in omega arith
 
 traverse-edge-cast-j : (t : ℕ) → traverse-edge-lts.Need-cast-j (
   emit-reads.Asked,
@@ -268,7 +269,7 @@ traverse-edge-cast-j : (t : ℕ) → traverse-edge-lts.Need-cast-j (
   search-vertex-below t,
   search-vertex.Post,
 ) (traverse-edge-at t) traverse-edge.Post
-traverse-edge-cast-j t c = let f = edge-reads (c .before .before .before .before .pre .1 .traversing) in omega arith
+traverse-edge-cast-j t c = let f = edge-reads (c .before .before .before .before .before .pre .1 .traversing) in omega arith
 
 traverse-edge-mul-x : (t : ℕ) → traverse-edge-lts.Need-mul-x (
   emit-reads.Asked,
@@ -276,7 +277,7 @@ traverse-edge-mul-x : (t : ℕ) → traverse-edge-lts.Need-mul-x (
   search-vertex-below t,
   search-vertex.Post,
 ) (traverse-edge-at t) traverse-edge.Post
-traverse-edge-mul-x t c = let f = edge-reads (c .before .before .before .before .pre .1 .traversing) in omega arith
+traverse-edge-mul-x t c = let f = edge-reads (c .before .before .before .before .before .pre .1 .traversing) in omega arith
 
 traverse-edge-shared-slice-read-x : (t : ℕ) → traverse-edge-lts.Need-shared-slice-read-x (
   emit-reads.Asked,
@@ -284,7 +285,7 @@ traverse-edge-shared-slice-read-x : (t : ℕ) → traverse-edge-lts.Need-shared-
   search-vertex-below t,
   search-vertex.Post,
 ) (traverse-edge-at t) traverse-edge.Post
-traverse-edge-shared-slice-read-x t c = let f = edge-reads (c .before .before .before .before .before .pre .1 .traversing) in omega arith
+traverse-edge-shared-slice-read-x t c = let f = edge-reads (c .before .before .before .before .before .before .pre .1 .traversing) in omega arith
 
 traverse-edge-sub-i : (t : ℕ) → traverse-edge-lts.Need-sub-i (
   emit-reads.Asked,
@@ -292,7 +293,7 @@ traverse-edge-sub-i : (t : ℕ) → traverse-edge-lts.Need-sub-i (
   search-vertex-below t,
   search-vertex.Post,
 ) (traverse-edge-at t) traverse-edge.Post
-traverse-edge-sub-i t c = let f = edge-reads (c .before .before .before .before .before .pre .1 .traversing) in omega arith
+traverse-edge-sub-i t c = let f = edge-reads (c .before .before .before .before .before .before .pre .1 .traversing) in omega arith
 
 traverse-edge-cast-i : (t : ℕ) → traverse-edge-lts.Need-cast-i (
   emit-reads.Asked,
@@ -300,7 +301,7 @@ traverse-edge-cast-i : (t : ℕ) → traverse-edge-lts.Need-cast-i (
   search-vertex-below t,
   search-vertex.Post,
 ) (traverse-edge-at t) traverse-edge.Post
-traverse-edge-cast-i t c = let f = edge-reads (c .before .before .before .before .before .pre .1 .traversing) in omega arith
+traverse-edge-cast-i t c = let f = edge-reads (c .before .before .before .before .before .before .pre .1 .traversing) in omega arith
 
 traverse-edge-mul-if1 : (t : ℕ) → traverse-edge-lts.Need-mul-if1 (
   emit-reads.Asked,
@@ -308,7 +309,7 @@ traverse-edge-mul-if1 : (t : ℕ) → traverse-edge-lts.Need-mul-if1 (
   search-vertex-below t,
   search-vertex.Post,
 ) (traverse-edge-at t) traverse-edge.Post
-traverse-edge-mul-if1 t c = let f = edge-reads (c .before .before .before .before .before .pre .1 .traversing) in omega arith
+traverse-edge-mul-if1 t c = let f = edge-reads (c .before .before .before .before .before .before .pre .1 .traversing) in omega arith
 
 traverse-edge-slice-read-if1 : (t : ℕ) → traverse-edge-lts.Need-slice-read-if1 (
   emit-reads.Asked,
@@ -316,7 +317,7 @@ traverse-edge-slice-read-if1 : (t : ℕ) → traverse-edge-lts.Need-slice-read-i
   search-vertex-below t,
   search-vertex.Post,
 ) (traverse-edge-at t) traverse-edge.Post
-traverse-edge-slice-read-if1 t c = let f = edge-reads (c .before .before .before .before .before .before .pre .1 .traversing) in omega arith
+traverse-edge-slice-read-if1 t c = let f = edge-reads (c .before .before .before .before .before .before .before .pre .1 .traversing) in omega arith
 
 traverse-edge-emit-requires : (t : ℕ) → traverse-edge-lts.Need-emit-requires (
   emit-reads.Asked,
@@ -333,8 +334,8 @@ traverse-edge-search-vertex-requires : (t : ℕ) → traverse-edge-lts.Need-sear
   search-vertex.Post,
 ) (traverse-edge-at t) traverse-edge.Post
 traverse-edge-search-vertex-requires t c κs =
-    let P = c .before .before .before .before .before .before .before .before .before .before .before .before .before .pre .1 in
-    (omega (arith, c .before .before .before .before .before .before .before .before .before .before .before .before .before .pre .0, tree-falls (P .traversing) (c .before .before .before .before .before .before .if1 .taken) (c .before .before .before .before .emit .ensures)), tree-can (P .traversing) (c .before .before .before .before .before .before .if1 .taken) (c .before .before .before .before .emit .ensures))
+    let P = c .before .before .before .before .before .before .before .before .before .before .before .before .before .before .pre .1 in
+    (omega (arith, c .before .before .before .before .before .before .before .before .before .before .before .before .before .before .pre .0, tree-falls (P .traversing) (c .before .before .before .before .before .before .if1 .taken) (c .before .before .before .before .emit .ensures)), tree-can (P .traversing) (c .before .before .before .before .before .before .if1 .taken) (c .before .before .before .before .emit .ensures))
 
 traverse-edge-emit-requires-2 : (t : ℕ) → traverse-edge-lts.Need-emit-requires-2 (
   emit-reads.Asked,
@@ -367,7 +368,7 @@ traverse-edge-same-length : (t : ℕ) → traverse-edge-lts.Need-same-length (
   search-vertex.Post,
 ) (traverse-edge-at t) traverse-edge.Post
 traverse-edge-same-length t c =
-    let P = c .before .before .before .before .before .before .before .before .before .before .before .before .before .before .before .before .before .before .before .before .before .before .pre .1 in
+    let P = c .before .before .before .before .before .before .before .before .before .before .before .before .before .before .before .before .before .before .before .before .before .before .before .pre .1 in
     tree-lengths (P .traversing) (c .before .before .before .before .before .before .before .before .before .before .before .before .before .before .before .if1 .taken) (c .before .before .before .before .before .before .before .before .before .before .before .before .before .emit .ensures) (c .before .before .before .before .before .before .before .before .search-vertex .ensures (P .before) _ (P .marks₀) (P .events₀) (tree-search (P .traversing) (c .before .before .before .before .before .before .before .before .before .before .before .before .before .before .before .if1 .taken) (c .before .before .before .before .before .before .before .before .before .before .before .before .before .emit .ensures))) .0
 
 traverse-edge-same-length-2 : (t : ℕ) → traverse-edge-lts.Need-same-length-2 (
@@ -377,7 +378,7 @@ traverse-edge-same-length-2 : (t : ℕ) → traverse-edge-lts.Need-same-length-2
   search-vertex.Post,
 ) (traverse-edge-at t) traverse-edge.Post
 traverse-edge-same-length-2 t c =
-    let P = c .before .before .before .before .before .before .before .before .before .before .before .before .before .before .before .before .before .before .before .before .before .before .pre .1 in
+    let P = c .before .before .before .before .before .before .before .before .before .before .before .before .before .before .before .before .before .before .before .before .before .before .before .pre .1 in
     c .before .before .emit2 .kept .0 ∙ tree-lengths (P .traversing) (c .before .before .before .before .before .before .before .before .before .before .before .before .before .before .before .if1 .taken) (c .before .before .before .before .before .before .before .before .before .before .before .before .before .emit .ensures) (c .before .before .before .before .before .before .before .before .search-vertex .ensures (P .before) _ (P .marks₀) (P .events₀) (tree-search (P .traversing) (c .before .before .before .before .before .before .before .before .before .before .before .before .before .before .before .if1 .taken) (c .before .before .before .before .before .before .before .before .before .before .before .before .before .emit .ensures))) .1
 
 traverse-edge-returns : (t : ℕ) → traverse-edge-lts.Need-returns (

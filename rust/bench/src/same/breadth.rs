@@ -1,7 +1,7 @@
 //! Breadth-first search: by a queue, and folded into the links.
 
 use super::judge;
-use super::log::{mark_blanks, Log};
+use super::log::{mark_blanks, Events};
 
 pub fn queue(
     n: u16,
@@ -24,27 +24,27 @@ pub fn queue(
     }
     mark_blanks(&mut marks[..nodes], before);
     queue[..vertices].fill(0);
-    let mut log = Log::new(events);
-    log.label(marks, start);
+    let mut events = Events::new(events);
+    let mut counts = events.label(marks, start, [0; 7]);
     queue[0] = start;
     let (mut at, mut last) = (0, 1);
     while at < last {
         let v = queue[at];
         let mut e = after[usize::from(v) - 1];
         while e != 0 {
-            log.emit(7, e, v);
+            counts = events.emit(7, e, v, counts);
             let x = tail[usize::from(e) - vertices - 1];
             if marks[usize::from(x) - 1] == 0 {
-                log.label(marks, x);
+                counts = events.label(marks, x, counts);
                 queue[last] = x;
                 last += 1;
             }
             e = after[usize::from(e) - 1];
         }
-        log.emit(6, 0, v);
+        counts = events.emit(6, 0, v, counts);
         at += 1;
     }
-    *tally = log.tally;
+    *tally = counts;
     0
 }
 
@@ -78,26 +78,26 @@ pub fn folded_queue(
         return number;
     }
     mark_blanks(&mut marks[..nodes], before);
-    let mut log = Log::new(events);
-    log.label(marks, start);
+    let mut events = Events::new(events);
+    let mut counts = events.label(marks, start, [0; 7]);
     let (mut v, mut f) = (start, last_node(after, start));
     while v != 0 {
         let mut e = v;
         let mut next = after[usize::from(v) - 1];
         while next > n {
             e = next;
-            log.emit(7, e, v);
+            counts = events.emit(7, e, v, counts);
             let x = tail[usize::from(e) - vertices - 1];
             if marks[usize::from(x) - 1] == 0 {
-                log.label(marks, x);
+                counts = events.label(marks, x, counts);
                 after[usize::from(f) - 1] = x;
                 f = last_node(after, x);
             }
             next = after[usize::from(e) - 1];
         }
-        log.emit(6, 0, v);
+        counts = events.emit(6, 0, v, counts);
         v = std::mem::take(&mut after[usize::from(e) - 1]);
     }
-    *tally = log.tally;
+    *tally = counts;
     0
 }

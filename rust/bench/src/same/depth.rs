@@ -1,36 +1,36 @@
 //! Depth-first search: recursive, by parent edges, and over the array form.
 
 use super::judge;
-use super::log::{mark_blanks, DepthLog, ON_THE_BLANK};
+use super::log::{mark_blanks, Events, Tally, ON_THE_BLANK};
 
 struct Search<'a> {
     n: usize,
     after: &'a [u16],
     tail: &'a [u16],
     marks: &'a mut [u16],
-    log: DepthLog<'a>,
+    events: Events<'a>,
 }
 
 impl Search<'_> {
-    fn search(&mut self, u: u16) {
-        self.log.label(self.marks, u);
+    fn search(&mut self, u: u16, tally: Tally) -> Tally {
+        let mut tally = self.events.label(self.marks, u, tally);
         let mut edge = self.after[usize::from(u) - 1];
         while edge != 0 {
-            self.traverse(edge, u);
+            tally = self.traverse(edge, u, tally);
             edge = self.after[usize::from(edge) - 1];
         }
-        self.log.emit(6, 0, u);
+        self.events.emit(6, 0, u, tally)
     }
 
-    fn traverse(&mut self, edge: u16, u: u16) {
+    fn traverse(&mut self, edge: u16, u: u16, tally: Tally) -> Tally {
         let x = self.tail[usize::from(edge) - self.n - 1];
         if self.marks[usize::from(x) - 1] == 0 {
-            self.log.emit(2, edge, u);
-            self.search(x);
-            self.log.emit(5, edge, u);
+            let tally = self.events.emit(2, edge, u, tally);
+            let tally = self.search(x, tally);
+            self.events.emit(5, edge, u, tally)
         } else {
-            self.log.emit(3, edge, u);
-            self.log.emit(4, edge, u);
+            let tally = self.events.emit(3, edge, u, tally);
+            self.events.emit(4, edge, u, tally)
         }
     }
 }
@@ -58,10 +58,9 @@ pub fn recursive(
         after: &after[..nodes],
         tail,
         marks,
-        log: DepthLog::new(events),
+        events: Events::new(events),
     };
-    walk.search(start);
-    *tally = walk.log.tally();
+    *tally = walk.search(start, [0; 7]);
     0
 }
 
@@ -86,29 +85,29 @@ pub fn parent(
     }
     mark_blanks(&mut marks[..nodes], before);
     parents[..vertices].fill(0);
-    let mut log = DepthLog::new(events);
-    log.label(marks, start);
+    let mut events = Events::new(events);
+    let mut counts = events.label(marks, start, [0; 7]);
     // v is being scanned, e is the edge next to traverse, f the tree edge into v.
     let (mut v, mut e, mut f) = (start, after[usize::from(start) - 1], 0);
     loop {
         while e != 0 {
             let x = tail[usize::from(e) - vertices - 1];
             if marks[usize::from(x) - 1] == 0 {
-                log.emit(2, e, v);
-                log.label(marks, x);
+                counts = events.emit(2, e, v, counts);
+                counts = events.label(marks, x, counts);
                 parents[usize::from(x) - 1] = f;
                 f = e;
                 v = x;
                 e = after[usize::from(x) - 1];
             } else {
-                log.emit(3, e, v);
-                log.emit(4, e, v);
+                counts = events.emit(3, e, v, counts);
+                counts = events.emit(4, e, v, counts);
                 e = after[usize::from(e) - 1];
             }
         }
-        log.emit(6, 0, v);
+        counts = events.emit(6, 0, v, counts);
         if f == 0 {
-            *tally = log.tally();
+            *tally = counts;
             return 0;
         }
         let above = parents[usize::from(v) - 1];
@@ -117,7 +116,7 @@ pub fn parent(
         } else {
             tail[usize::from(above) - vertices - 1]
         };
-        log.emit(5, f, v);
+        counts = events.emit(5, f, v, counts);
         e = after[usize::from(f) - 1];
         f = above;
     }
@@ -144,8 +143,8 @@ pub fn array(
     }
     mark_blanks(&mut marks[..nodes], before);
     increments[..vertices].fill(0);
-    let mut log = DepthLog::new(events);
-    log.label(marks, start);
+    let mut events = Events::new(events);
+    let mut counts = events.label(marks, start, [0; 7]);
     increments[usize::from(start) - 1] = 1;
     // v is being scanned, e is the position next to traverse, u the parent of v.
     let (mut v, mut e, mut u) = (start, firsts[usize::from(start) - 1], 0);
@@ -153,28 +152,28 @@ pub fn array(
         while e < firsts[usize::from(v)] {
             let x = tails[usize::from(e) - 1];
             if increments[usize::from(x) - 1] == 0 && marks[usize::from(x) - 1] != ON_THE_BLANK {
-                log.emit(2, n + e, v);
+                counts = events.emit(2, n + e, v, counts);
                 increments[usize::from(v) - 1] = e - firsts[usize::from(v) - 1] + 1;
                 tails[usize::from(e) - 1] = u;
-                log.label(marks, x);
+                counts = events.label(marks, x, counts);
                 increments[usize::from(x) - 1] = 1;
                 u = v;
                 v = x;
                 e = firsts[usize::from(x) - 1];
             } else {
-                log.emit(3, n + e, v);
-                log.emit(4, n + e, v);
+                counts = events.emit(3, n + e, v, counts);
+                counts = events.emit(4, n + e, v, counts);
                 e += 1;
             }
         }
-        log.emit(6, 0, v);
+        counts = events.emit(6, 0, v, counts);
         if u == 0 {
-            *tally = log.tally();
+            *tally = counts;
             return 0;
         }
         e = firsts[usize::from(u) - 1] + increments[usize::from(u) - 1] - 1;
         let above = std::mem::replace(&mut tails[usize::from(e) - 1], v);
-        log.emit(5, n + e, u);
+        counts = events.emit(5, n + e, u, counts);
         v = u;
         e += 1;
         u = above;

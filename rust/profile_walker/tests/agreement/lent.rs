@@ -53,6 +53,14 @@ pub struct Print {
     pub text: Area<u8>,
 }
 
+/// refusal_line.
+#[derive(Clone, Debug, PartialEq)]
+pub struct Line {
+    pub number: u16,
+    pub printed: usize,
+    pub output: Area<u8>,
+}
+
 /// The whole walks. `before` lists the elements already on the blank. `after` and `tail` are first positions and tails
 /// for the array form; `own` is the parent, queue or increment area, empty for the walks without one.
 #[derive(Clone, Debug, PartialEq)]
@@ -180,7 +188,7 @@ fn compare<L: Clone + Debug + PartialEq>(
         "{call} returned {got} on {}",
         cut(before)
     );
-    if got != 0 && call != "walk_text" {
+    if got != 0 {
         assert!(
             lent == *before,
             "{call} returned {got} and changed {} to {}",
@@ -297,6 +305,20 @@ pub fn walk_text(table: &mut Table, lent: &Print) -> (u16, Print) {
                 &mut l.printed,
             )
         },
+    )
+}
+
+pub fn refusal_line(table: &mut Table, lent: &Line) -> (u16, Line) {
+    compare(
+        table,
+        "refusal_line",
+        lent,
+        |l| areas::refusal_line(l.number, &mut l.output, &mut l.printed),
+        Some(|l: &mut Line| {
+            l.printed = profile_walker::refusal_line(Refusal(l.number), &mut l.output)?;
+            Ok(())
+        }),
+        |l| reference::refusal_line(l.number, &mut l.output, &mut l.printed),
     )
 }
 

@@ -62,7 +62,8 @@ fn images_agree() {
 
 #[test]
 fn texts_agree() {
-    topic("texts", &["read_profile", "walk_text"], texts::compare);
+    let calls = ["read_profile", "walk_text", "refusal_line"];
+    topic("texts", &calls, texts::compare);
 }
 
 #[test]

@@ -4,11 +4,12 @@ use std::collections::BTreeMap;
 use std::fmt;
 
 /// The calls and the numbers that each of them can return, 0 for a call taken.
-pub const CALLS: [(&str, &[u16]); 15] = [
+pub const CALLS: [(&str, &[u16]); 16] = [
     ("check_image", &[0, 1, 2, 3, 5, 6, 7]),
     ("read_profile", &[0, 1, 2, 3, 4, 6, 12, 13]),
     ("to_array", &[0, 1, 2, 3, 5, 6, 7]),
     ("walk_text", &[0, 1, 2, 3, 4, 6, 12, 13]),
+    ("refusal_line", &[0, 3]),
     ("dfs_recursive", &[0, 1, 2, 3, 4, 5, 6, 7, 17, 18]),
     ("dfs_parent", &[0, 1, 2, 3, 4, 5, 6, 7, 17, 18]),
     ("dfs_array", &[0, 1, 2, 3, 4, 5, 6, 17, 18]),

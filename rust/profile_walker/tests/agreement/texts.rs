@@ -1,6 +1,6 @@
-//! read_profile and walk_text.
+//! read_profile, walk_text and refusal_line.
 
-use crate::lent::{read_profile, walk_text, Print, Text};
+use crate::lent::{read_profile, refusal_line, walk_text, Line, Print, Text};
 use crate::padding::{by_chance, in_full, padded, to_bytes};
 use crate::profiles::{fits, lengths, shaped, small, sound, text, Fit};
 use crate::rng::Rng;
@@ -77,6 +77,7 @@ pub fn compare(table: &mut Table) {
     values(table, &mut rng);
     long_texts(table, &mut rng);
     short_outputs(table, &mut rng);
+    refusals(table, &mut rng);
     every_change_of_one_byte(table, &mut rng, &in_full(EXAMPLE));
     every_number(table, &mut rng);
     paddings(table, &mut rng);
@@ -431,7 +432,24 @@ fn long_texts(table: &mut Table, rng: &mut Rng) {
     assert_eq!(print(table, rng, &largest, Fit::Exact), 0);
 }
 
-/// An output that has no room for the line of a refusal, or just room.
+/// The line of every number: into exactly the bytes that it has, and into none, fewer and more.
+fn refusals(table: &mut Table, rng: &mut Rng) {
+    for number in 0..=u16::MAX {
+        let length = format!("refused,{number}\n").len();
+        for bytes in [length, length - 1, length + 1, rng.below(20)] {
+            let lent = Line {
+                number,
+                printed: usize::from(rng.word()),
+                output: vec![rng.word() as u8; bytes].into(),
+            };
+            let (got, left) = refusal_line(table, &lent);
+            assert_eq!(got, if bytes < length { 3 } else { 0 });
+            assert!(got != 0 || left.printed == length);
+        }
+    }
+}
+
+/// An output as short as the line of a refusal, which is not printed.
 fn short_outputs(table: &mut Table, rng: &mut Rng) {
     let [a, t, marks, events, needed] = NEEDED;
     let texts = [

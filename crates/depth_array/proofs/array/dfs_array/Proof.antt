@@ -1,11 +1,9 @@
 -- A search is refused with its number and changes nothing, or it is the depth-first search of the array form.
 -- The number is asked first, on areas that are only read; where it is 0 the search can begin.
-use mathlib.Core.Path.{refl, sym, _∙_}
-use mathlib.Core.Logic.{_≢_}
+use mathlib.Core.Path.{refl}
 use borrow.Author.Needs.{needs}
-use Rattle.graphs.proofs.Refusals.{refused}
-use Rattle.walks.proofs.Begins.{zeros-tallied}
-use Rattle.walks.proofs.ArrayBegins.{array-begins}
+use Rattle.arrays.specs.Arrays.{arrayIn}
+use Rattle.depth_array.proofs.Increments.{walk-refused, walk-begins, walk-ends}
 use Rattle.depth_array.proofs.array.dfs_array.Statement.{statement}
 use Rattle.depth_array.proofs.array.dfs_array.Tie as tie
 
@@ -16,37 +14,43 @@ refused-requires : tie.Need-refused-requires
 refused-requires c κs = search needs
 
 same-length : tie.Need-same-length
-same-length c = search needs
+same-length c = refl
 
 same-length-2 : tie.Need-same-length-2
-same-length-2 c = search needs
+same-length-2 c = refl
 
 same-length-3 : tie.Need-same-length-3
-same-length-3 c = search needs
+same-length-3 c = refl
 
 same-length-4 : tie.Need-same-length-4
-same-length-4 c = search needs
+same-length-4 c = refl
 
 returns : tie.Need-returns
-returns c = let z = c .before .before .before .before .before .before .before .before .before .before .before .before .before .args in let k = c .refused .result .number in let ne : k ≢ 0 = λ e. c .before .if1 .taken (sym (c .refused .ensures .0) ∙ e) in (c .refused .ensures .0 ∙ c .before .before .array-walk-number .ensures, (c .refused .ensures .1 ∙ zeros-tallied k _ ne, (refl, (refused k _ (z .marks .now) ne, (refused k _ (z .increments .now) ne, refused k _ (z .events .now) ne)))))
+returns c =
+    let a = c .before .before .before .before .before .before .before .before .before .before .before .before .before .args in
+    walk-refused (arrayIn (a .n) (a .m) (a .firsts .now) (a .tails .now)) (a .before .now) (a .start .0) (a .marks .now) (a .increments .now) (a .events .now) (c .before .before .array-walk-number .ensures) (c .refused .ensures) (c .before .if1 .taken)
 
 search-requires : tie.Need-search-requires
-search-requires c κs = array-begins _ _ _ _ _ _ (sym (c .before .before .before .before .before .array-walk-number .ensures) ∙ c .before .before .before .before .if1 .left)
+search-requires c κs =
+    let a = c .before .before .before .before .before .before .before .before .before .before .before .before .before .before .before .before .args in
+    walk-begins (arrayIn (a .n) (a .m) (a .firsts .now) (a .tails .now)) (a .before .now) (a .start .0) (a .marks .now) (a .increments .now) (a .events .now) (c .before .before .before .before .before .array-walk-number .ensures) (c .before .before .before .before .if1 .left)
 
 same-length-5 : tie.Need-same-length-5
-same-length-5 c = search needs
+same-length-5 c = c .before .before .before .before .before .before .before .before .search .kept .1 .1 .1 .1 .0
 
 same-length-6 : tie.Need-same-length-6
-same-length-6 c = search needs
+same-length-6 c = c .before .before .before .before .before .before .before .before .search .kept .1 .1 .1 .1 .1 .1 .0
 
 same-length-7 : tie.Need-same-length-7
-same-length-7 c = search needs
+same-length-7 c = c .before .before .before .before .before .before .before .before .search .kept .1 .1 .1 .1 .1 .1 .1 .0
 
 same-length-8 : tie.Need-same-length-8
-same-length-8 c = search needs
+same-length-8 c = c .before .before .before .before .before .before .before .before .search .kept .1 .1 .1 .1 .1 .1 .1 .1 .0
 
 returns-2 : tie.Need-returns-2
-returns-2 c = (sym (c .before .before .before .before .before .before .before .before .before .before .before .before .before .if1 .left) ∙ c .before .before .before .before .before .before .before .before .before .before .before .before .before .before .array-walk-number .ensures, (c .before .before .before .before .before .before .before .before .search .ensures .held .counts, (c .before .before .before .before .before .before .before .before .search .ensures .tails-left, (c .before .before .before .before .before .before .before .before .search .ensures .held .marked, (c .before .before .before .before .before .before .before .before .search .ensures .increments-left, c .before .before .before .before .before .before .before .before .search .ensures .held .written)))))
+returns-2 c =
+    let a = c .before .before .before .before .before .before .before .before .before .before .before .before .before .before .before .before .before .before .before .before .before .before .before .before .before .args in
+    walk-ends (arrayIn (a .n) (a .m) (a .firsts .now) (a .tails .now)) (a .before .now) (a .start .0) (a .marks .now) (a .increments .now) (a .events .now) (c .before .before .before .before .before .before .before .before .before .before .before .before .before .before .array-walk-number .ensures) (c .before .before .before .before .before .before .before .before .before .before .before .before .before .if1 .left) (c .before .before .before .before .before .before .before .before .search .ensures)
 
 pub dfs-array-spec : {M : Type 1} → statement M
 dfs-array-spec =

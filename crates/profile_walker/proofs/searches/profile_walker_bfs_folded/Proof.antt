@@ -6,6 +6,7 @@ use Prim.Native.Nat.{ℕ}
 use Rattle.lists.specs.Words.{overlay}
 use Rattle.graphs.proofs.Refusals.{refused}
 use Rattle.images.specs.Checking.{image}
+use Rattle.walks.proofs.Begins.{answered}
 use Rattle.profile_walker.proofs.Numbers.{walk-long, walk-short}
 use borrow.Author.Needs.{needs}
 use Rattle.profile_walker.proofs.searches.profile_walker_bfs_folded.Statement.{statement}
@@ -45,8 +46,9 @@ returns-2 : tie.Need-returns-2
 returns-2 c =
     let a = c .before .before .before .before .before .before .before .before .before .before .before .before .before .before .before .before .before .before .args in
     let e = c .before .before .before .before .before .before .before .bfs-folded .ensures in
-    let is = e .0 ∙ walk-long (image (a .n) (a .m) (a .after .now) (a .tail .now)) (a .before .now) (a .start) (a .marks .now) (a .events .now) [] (a .counts .now) (c .before .before .before .before .before .before .before .before .before .before .before .if1 .left) in
-    (is, (refused _ _ (a .counts .now) (c .if2 .taken), e .1 .1))
+    let is = e .0 .number-is ∙ walk-long (image (a .n) (a .m) (a .after .now) (a .tail .now)) (a .before .now) (a .start) (a .marks .now) (a .events .now) [] (a .counts .now) (c .before .before .before .before .before .before .before .before .before .before .before .if1 .left) in
+    let q = answered (e .0) refl in
+    (is, (refused _ _ (a .counts .now) (c .if2 .taken), (e .1, q .1)))
 
 write-tally-requires : tie.Need-write-tally-requires
 write-tally-requires c κs = search needs
@@ -68,8 +70,9 @@ returns-3 c =
     let a = c .before .before .before .before .before .before .before .before .before .before .before .before .before .before .before .before .before .before .before .before .before .before .before .args in
     let e = c .before .before .before .before .before .before .before .before .before .before .before .before .bfs-folded .ensures in
     let z = c .before .before .before .before .before .if2 .left in
-    let is = e .0 ∙ walk-long (image (a .n) (a .m) (a .after .now) (a .tail .now)) (a .before .now) (a .start) (a .marks .now) (a .events .now) [] (a .counts .now) (c .before .before .before .before .before .before .before .before .before .before .before .before .before .before .before .before .if1 .left) in
-    (sym z ∙ is, (c .before .before .write-tally .ensures ∙ ap (λ (t : List ℕ). overlay t (a .counts .now)) (rw z at (e .1 .0)), rw z at (e .1 .1)))
+    let is = e .0 .number-is ∙ walk-long (image (a .n) (a .m) (a .after .now) (a .tail .now)) (a .before .now) (a .start) (a .marks .now) (a .events .now) [] (a .counts .now) (c .before .before .before .before .before .before .before .before .before .before .before .before .before .before .before .before .if1 .left) in
+    let q = answered (e .0) z in
+    (sym z ∙ is, (c .before .before .write-tally .ensures ∙ ap (λ (t : List ℕ). overlay t (a .counts .now)) (q .0), (e .1, q .1)))
 
 pub profile-walker-bfs-folded-spec : {M : Type 1} → statement M
 profile-walker-bfs-folded-spec =

@@ -1,11 +1,12 @@
 -- Fewer than seven words for the tally are one short area more; seven words or more add nothing to the number.
 -- All else is as the walker leaves it, and of a walk taken its tally is stored.
-use mathlib.Core.Path.{sym, ap, _∙_}
+use mathlib.Core.Path.{refl, sym, ap, _∙_}
 use mathlib.Core.List.{List, []}
 use Prim.Native.Nat.{ℕ}
 use Rattle.lists.specs.Words.{overlay}
 use Rattle.graphs.proofs.Refusals.{refused}
 use Rattle.images.specs.Checking.{image}
+use Rattle.walks.proofs.Begins.{answered}
 use Rattle.profile_walker.proofs.Numbers.{walk-long, walk-short}
 use borrow.Author.Needs.{needs}
 use Rattle.profile_walker.proofs.searches.profile_walker_dfs_recursive.Statement.{
@@ -41,8 +42,9 @@ returns-2 : tie.Need-returns-2
 returns-2 c =
     let a = c .before .before .before .before .before .before .before .before .before .before .before .before .before .before .before .args in
     let e = c .before .before .before .before .before .dfs-recursive .ensures in
-    let is = e .0 ∙ walk-long (image (a .n) (a .m) (a .after .now) (a .tail .now)) (a .before .now) (a .start) (a .marks .now) (a .events .now) [] (a .counts .now) (c .before .before .before .before .before .before .before .before .if1 .left) in
-    (is, (refused _ _ (a .counts .now) (c .if2 .taken), e .1 .1))
+    let is = e .number-is ∙ walk-long (image (a .n) (a .m) (a .after .now) (a .tail .now)) (a .before .now) (a .start) (a .marks .now) (a .events .now) [] (a .counts .now) (c .before .before .before .before .before .before .before .before .if1 .left) in
+    let q = answered e refl in
+    (is, (refused _ _ (a .counts .now) (c .if2 .taken), q .1))
 
 write-tally-requires : tie.Need-write-tally-requires
 write-tally-requires c κs = search needs
@@ -61,8 +63,9 @@ returns-3 c =
     let a = c .before .before .before .before .before .before .before .before .before .before .before .before .before .before .before .before .before .before .before .before .args in
     let e = c .before .before .before .before .before .before .before .before .before .before .dfs-recursive .ensures in
     let z = c .before .before .before .before .before .if2 .left in
-    let is = e .0 ∙ walk-long (image (a .n) (a .m) (a .after .now) (a .tail .now)) (a .before .now) (a .start) (a .marks .now) (a .events .now) [] (a .counts .now) (c .before .before .before .before .before .before .before .before .before .before .before .before .before .if1 .left) in
-    (sym z ∙ is, (c .before .before .write-tally .ensures ∙ ap (λ (t : List ℕ). overlay t (a .counts .now)) (rw z at (e .1 .0)), rw z at (e .1 .1)))
+    let is = e .number-is ∙ walk-long (image (a .n) (a .m) (a .after .now) (a .tail .now)) (a .before .now) (a .start) (a .marks .now) (a .events .now) [] (a .counts .now) (c .before .before .before .before .before .before .before .before .before .before .before .before .before .if1 .left) in
+    let q = answered e z in
+    (sym z ∙ is, (c .before .before .write-tally .ensures ∙ ap (λ (t : List ℕ). overlay t (a .counts .now)) (q .0), q .1))
 
 pub profile-walker-dfs-recursive-spec : {M : Type 1} → statement M
 profile-walker-dfs-recursive-spec =

@@ -33,29 +33,26 @@ are-long-requires c κs = search needs
 short-number-requires : tie.Need-short-number-requires
 short-number-requires c κs = search needs
 
-refused-requires : tie.Need-refused-requires
-refused-requires c κs = search needs
-
 same-length : tie.Need-same-length
 same-length c = search needs
 
 same-length-2 : tie.Need-same-length-2
 same-length-2 c = search needs
 
-same-length-3 : tie.Need-same-length-3
-same-length-3 c = search needs
-
 returns : tie.Need-returns
-returns c = let z = c .before .before .before .before .before .before .before .before .before .before .before .before .before .before .before .before .before .before .before .args in short-reported (z .text .now) (z .after .now) (z .tail .now) (z .marks .now) (z .events .now) (z .output .now) (tested (c .before .before .before .before .before .before .before .before .before .before .before .before)) (c .before .before .before .before .before .before .before .before .short-number .result) (c .before .before .refused .result) _ _ _ (c .before .before .before .before .before .before .before .before .before .before .before .if1 .taken) (c .before .before .before .before .before .before .before .before .short-number .ensures .0) (c .before .before .before .before .before .before .before .before .short-number .ensures .1 .0) (c .before .before .before .before .before .before .before .before .short-number .ensures .1 .1) (c .before .before .refused .ensures _ _ (z .marks .now) (z .events .now))
+returns c =
+    let s = c .before .before .before .before in
+    let t = s .before .before .before in
+    let z = entry (t .before) .args in
+    let k = s .short-number in
+    short-reported (z .text .now) (z .after .now) (z .tail .now) (z .marks .now) (z .events .now) (z .output .now)
+    (tested (t .before)) (k .result) _ _ (t .if1 .taken) (k .ensures .0) (k .ensures .1 .0) (k .ensures .1 .1)
 
 read-profile-requires : tie.Need-read-profile-requires
 read-profile-requires c κs = search needs
 
-enum-known-k : tie.Need-enum-known-k
-enum-known-k c = search needs
-
-refused-requires-2 : tie.Need-refused-requires-2
-refused-requires-2 c κs = search needs
+enum-known-number : tie.Need-enum-known-number
+enum-known-number c = search needs
 
 enum-known-n : tie.Need-enum-known-n
 enum-known-n c = search needs
@@ -66,17 +63,27 @@ walk-whole-requires c κs = let z = c .before .before .before .before .before .b
 print-walk-requires : tie.Need-print-walk-requires
 print-walk-requires c κs = let z = c .before .before .before .before .before .before .before .before .before .before .before .before .before .before .before .before .before .before .before .before .before .before .before .before .before .before .before .before .before .before .before .before .before .args in let p = c .before .before .before .before .before .before .before .before .before .before .before .before .before .before .before .before in let w = c .before .before .before .before .before .before .before .before .before .before .walk-whole in can-print (z .text .now) (z .after .now) (z .tail .now) (z .marks .now) (z .events .now) (z .output .now) (tested (test-at p)) (c .before .before .before .before .before .before .before .before .before .before .before .before .before .before .before .before .before .before .before .before .before .before .before .before .before .if1 .left) _ _ _ _ _ (found p) (w .result) _ (w .ensures .0) (w .ensures .1 .1 .1 .1)
 
+same-length-3 : tie.Need-same-length-3
+same-length-3 c = search needs
+
 same-length-4 : tie.Need-same-length-4
 same-length-4 c = search needs
+
+returns-2 : tie.Need-returns-2
+returns-2 c =
+    let k = c .before in
+    let r = k .before .before .before .before .before .before in
+    let t = r .before .before .before in
+    let z = entry (t .before) .args in
+    let e = r .read-profile .ensures in
+    long-reported (z .text .now) (z .after .now) (z .tail .now) (z .marks .now) (z .events .now) (z .output .now)
+    (tested (t .before)) (k .number .given .0 .0) _ _ (t .if1 .left) (sym (ap answered (k .number .given .1)) ∙ e .0) (e .1 .0) (e .1 .1)
 
 same-length-5 : tie.Need-same-length-5
 same-length-5 c = search needs
 
 same-length-6 : tie.Need-same-length-6
 same-length-6 c = search needs
-
-returns-2 : tie.Need-returns-2
-returns-2 c = let z = c .before .before .before .before .before .before .before .before .before .before .before .before .before .before .before .before .before .before .before .before .before .before .args in let r = c .before .before .before .before .before .before .before .before .before .before .before .read-profile in long-reported (z .text .now) (z .after .now) (z .tail .now) (z .marks .now) (z .events .now) (z .output .now) (tested (c .before .before .before .before .before .before .before .before .before .before .before .before .before .before .before)) (c .before .before .before .before .before .k .given .0 .0) (c .before .before .refused2 .result) _ _ _ (c .before .before .before .before .before .before .before .before .before .before .before .before .before .before .if1 .left) (sym (ap answered (c .before .before .before .before .before .k .given .1)) ∙ r .ensures .0) (r .ensures .1 .0) (r .ensures .1 .1) (c .before .before .refused2 .ensures _ _ (z .marks .now) (z .events .now))
 
 same-length-7 : tie.Need-same-length-7
 same-length-7 c = search needs
@@ -87,12 +94,6 @@ same-length-8 c = search needs
 same-length-9 : tie.Need-same-length-9
 same-length-9 c = search needs
 
-same-length-10 : tie.Need-same-length-10
-same-length-10 c = search needs
-
-same-length-11 : tie.Need-same-length-11
-same-length-11 c = search needs
-
 returns-3 : tie.Need-returns-3
 returns-3 c = let z = c .before .before .before .before .before .before .before .before .before .before .before .before .before .before .before .before .before .before .before .before .before .before .before .before .before .before .before .before .before .before .before .before .before .before .before .before .args in let p = c .before .before .before .before .before .before .before .before .before .before .before .before .before .before .before .before .before .before .before in let w = c .before .before .before .before .before .before .before .before .before .before .before .before .before .walk-whole in walk-reported (z .text .now) (z .after .now) (z .tail .now) (z .marks .now) (z .events .now) (z .output .now) (tested (test-at p)) (c .before .before .before .before .before .before .before .before .before .before .before .before .before .before .before .before .before .before .before .before .before .before .before .before .before .before .before .before .if1 .left) _ _ _ _ _ (found p) (w .result) _ (w .ensures .0) (w .ensures .1 .1 .1 .1) _ _ _ _ _ (w .ensures .1 .0) (w .ensures .1 .1 .0) (w .ensures .1 .1 .1 .0) (c .before .before .print-walk .ensures .0) (c .before .before .print-walk .ensures .1)
 
@@ -102,24 +103,20 @@ walk-text-spec =
     (tie.spec
     are-long-requires
     short-number-requires
-    refused-requires
     same-length
     same-length-2
-    same-length-3
     returns
     read-profile-requires
-    enum-known-k
-    refused-requires-2
+    enum-known-number
     enum-known-n
     walk-whole-requires
     print-walk-requires
+    same-length-3
     same-length-4
+    returns-2
     same-length-5
     same-length-6
-    returns-2
     same-length-7
     same-length-8
     same-length-9
-    same-length-10
-    same-length-11
     returns-3)

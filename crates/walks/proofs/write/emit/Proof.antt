@@ -19,17 +19,19 @@ use Rattle.walks.proofs.write.has_room.Reads as has-room-reads
 abbrev Past : Type 0
 Past = lts.After-count (has-room-reads.Asked, has-room-reads.Learnt, count-reads.Asked, count-reads.Learnt) reads.Pre reads.Post
 
-has : (c : Past) → hasRoom (c .before .before .before .before .args .kind) (c .before .before .before .before .args .tally) (length (c .before .before .before .before .args .events .now)) ≡ true
+has : (c : Past) → (let a = c .before .before .before .before .args in hasRoom (a .kind) (a .tally) (length (a .events .now)) ≡ true)
 has c = sym (c .before .before .has-room .ensures) ∙ not-false _ (c .before .if1 .left)
 
-room : (c : Past) → Room (c .before .before .before .before .args .kind) (c .before .before .before .before .args .tally) (length (c .before .before .before .before .args .events .now))
-room c = room-is (c .before .before .before .before .args .kind) (c .before .before .before .before .args .tally) (length (c .before .before .before .before .args .events .now)) (has c)
+room : (c : Past) → (let a = c .before .before .before .before .args in Room (a .kind) (a .tally) (length (a .events .now)))
+room c = let a = c .before .before .before .before .args in room-is (a .kind) (a .tally) (length (a .events .now)) (has c)
 
 has-room-requires : tie.Need-has-room-requires
 has-room-requires c κs = search needs
 
 returns : tie.Need-returns
-returns c = not-written (c .before .before .before .args .kind) (c .before .before .before .args .r) (c .before .before .before .args .u) (c .before .before .before .args .tally) (c .before .before .before .args .events .now) (sym (c .before .has-room .ensures) ∙ not-true _ (c .if1 .taken))
+returns c =
+    let a = c .before .before .before .args in
+    not-written (a .kind) (a .r .0) (a .u .0) (a .tally) (a .events .now) (sym (c .before .has-room .ensures) ∙ not-true _ (c .if1 .taken))
 
 count-requires : tie.Need-count-requires
 count-requires c κs = search needs
@@ -71,7 +73,7 @@ array-read-t : tie.Need-array-read-t
 array-read-t c = omega (arith, room c .low, room c .high)
 
 add-t : tie.Need-add-t
-add-t c = omega (arith, room c .few, count-most (c .before .before .before .before .args .tally) (c .before .before .before .before .args .kind - 1))
+add-t c = let a = c .before .before .before .before .args in omega (arith, room c .few, count-most (a .tally) (a .kind - 1))
 
 mul-t-2 : tie.Need-mul-t-2
 mul-t-2 c = search needs
@@ -80,10 +82,13 @@ array-write-t : tie.Need-array-write-t
 array-write-t c = omega (arith, room c .low, room c .high)
 
 same-length : tie.Need-same-length
-same-length c = search needs
+same-length c = simp length-set
 
 returns-2 : tie.Need-returns-2
-returns-2 c = let e : 3 * (c .count .result) ≡ 3 * total (c .before .before .before .before .args .tally) = ap (λ (x : ℕ). 3 * x) (c .count .ensures) in written (c .before .before .before .before .args .kind) (c .before .before .before .before .args .r) (c .before .before .before .before .args .u) (c .before .before .before .before .args .tally) (c .before .before .before .before .args .events .now) (has c) (3 * (c .count .result)) e
+returns-2 c =
+    let a = c .before .before .before .before .args in
+    let e : 3 * (c .count .result) ≡ 3 * total (a .tally) = ap (λ (x : ℕ). 3 * x) (c .count .ensures) in
+    written (a .kind) (a .r .0) (a .u .0) (a .tally) (a .events .now) (has c) (3 * (c .count .result)) e
 
 pub emit-spec : {M : Type 1} → statement M
 emit-spec =
