@@ -11,7 +11,7 @@
 #include "profile_walker.h"
 
 #if PROFILE_WALKER_VERSION != 3
-#error "these calls are those of version 2 of profile_walker.h"
+#error "these calls are those of version 3 of profile_walker.h"
 #endif
 
 static const char profile_text[] =

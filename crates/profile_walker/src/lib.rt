@@ -1,13 +1,13 @@
 // The calls of the profile walker for controllers in C or Rust. `include/profile_walker.h` declares them.
 //
 // Each call works on numbers and on lent areas; an area passes as a pointer and its length in words or bytes. A call returns the number
-// with which document 01 turns it back, and then changes nothing, or 0. A state is nine lent words, the panel is one lent word. What
-// each of them returns and leaves is what the inner call of the same name does. Every call takes any input at all.
+// with which document 01 turns it back, and then changes nothing, or 0. A state is nine lent words, the panel is one lent word. Each is one
+// line: it promises what the inner call of its name promises (`tally_words`, `state_words` and `text_words` hand over words), and calls it.
+// Every call takes any input at all.
 mod cards;
 mod profiles;
 mod searches;
 mod steps;
-mod words;
 
 pub use cards::profile_walker_accept;
 pub use cards::profile_walker_shift_start;

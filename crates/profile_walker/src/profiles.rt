@@ -1,8 +1,4 @@
 // Profiles: an image checked, a text read, an image converted, a text walked, a refusal printed.
-use report::refusal_line;
-use report::walk_text;
-use texts::Profile;
-use texts::read_profile;
 ghost use mathlib.Core.Path.{_≡_};
 ghost use mathlib.Core.List.{[]};
 ghost use Rattle.lists.specs.Words.{overlay};
@@ -12,7 +8,7 @@ ghost use Rattle.images.specs.Checking.{image};
 ghost use Rattle.arrays.specs.Arrays.{convertNumber};
 ghost use Rattle.texts.specs.Loading.{reading, afterLeft, tailLeft};
 ghost use Rattle.report.specs.Report.{reportOf, told, lineNumber, lineBytes, lineLeft};
-ghost use Rattle.profile_walker.specs.Handed.{sized, handedSizes, wordUnless, toldIn};
+ghost use Rattle.text_words.specs.Told.{sized, handedSizes, wordUnless, toldIn};
 
 // `images::check_image`.
 #[no_mangle]
@@ -20,35 +16,6 @@ pub extern "C" fn profile_walker_check_image(n: u16, m: u16, after: &[u16], tail
     ensures { λ r. ⌜ r ≡ imageNumber (image n m (now (after .entry)) (now (tail .entry))) [] ⌝ }
 {
     images::check_image(n, m, after, tail)
-}
-
-// `texts::read_profile`: the sizes and the start of a profile loaded are stored in three lent words.
-#[no_mangle]
-pub extern "C" fn profile_walker_read_profile(
-    text: &[u8],
-    after: &mut [u16],
-    tail: &mut [u16],
-    n: &mut u16,
-    m: &mut u16,
-    start: &mut u16,
-) -> u16
-    ensures answer { λ r. ⌜ sized r (now (n .exit)) (now (m .exit)) (now (start .exit)) ≡ handedSizes (reading (now (text .entry)) (now (after .entry)) (now (tail .entry))) (now (n .entry)) (now (m .entry)) (now (start .entry)) ⌝ }
-    ensures links { λ r. ⌜ now (after .exit) ≡ afterLeft (reading (now (text .entry)) (now (after .entry)) (now (tail .entry))) (now (after .entry)) ⌝ }
-    ensures tails { λ r. ⌜ now (tail .exit) ≡ tailLeft (reading (now (text .entry)) (now (after .entry)) (now (tail .entry))) (now (tail .entry)) ⌝ }
-{
-    match read_profile(text, after, tail) {
-        Profile::Refused(k) => k,
-        Profile::Loaded {
-            n: vertices,
-            m: edges,
-            start: first,
-        } => {
-            *n = vertices;
-            *m = edges;
-            *start = first.0;
-            0
-        }
-    }
 }
 
 // `arrays::to_array`.
@@ -70,7 +37,24 @@ pub extern "C" fn profile_walker_to_array(
     arrays::to_array(n, m, after, tail, firsts, tails, numbers)
 }
 
-// `report::walk_text`: how many bytes are printed is stored in a lent word, where the text is walked.
+// `text_words::read_profile_in_words`.
+#[no_mangle]
+pub extern "C" fn profile_walker_read_profile(
+    text: &[u8],
+    after: &mut [u16],
+    tail: &mut [u16],
+    n: &mut u16,
+    m: &mut u16,
+    start: &mut u16,
+) -> u16
+    ensures answer { λ r. ⌜ sized r (now (n .exit)) (now (m .exit)) (now (start .exit)) ≡ handedSizes (reading (now (text .entry)) (now (after .entry)) (now (tail .entry))) (now (n .entry)) (now (m .entry)) (now (start .entry)) ⌝ }
+    ensures links { λ r. ⌜ now (after .exit) ≡ afterLeft (reading (now (text .entry)) (now (after .entry)) (now (tail .entry))) (now (after .entry)) ⌝ }
+    ensures tails { λ r. ⌜ now (tail .exit) ≡ tailLeft (reading (now (text .entry)) (now (after .entry)) (now (tail .entry))) (now (tail .entry)) ⌝ }
+{
+    text_words::read_profile_in_words(text, after, tail, n, m, start)
+}
+
+// `text_words::walk_text_in_words`.
 #[no_mangle]
 pub extern "C" fn profile_walker_walk_text(
     text: &[u8],
@@ -83,16 +67,10 @@ pub extern "C" fn profile_walker_walk_text(
 ) -> u16
     ensures { λ r. ⌜ told (record { number = r; bytes = now (printed .exit) }) (now (after .exit)) (now (tail .exit)) (now (marks .exit)) (now (events .exit)) (now (output .exit)) ≡ toldIn (now (printed .entry)) (reportOf (now (text .entry)) (now (after .entry)) (now (tail .entry)) (now (marks .entry)) (now (events .entry)) (now (output .entry))) ⌝ }
 {
-    let r = walk_text(text, after, tail, marks, events, output);
-    let k = r.number;
-    if k != 0 {
-        return k;
-    }
-    *printed = r.bytes;
-    0
+    text_words::walk_text_in_words(text, after, tail, marks, events, output, printed)
 }
 
-// `report::refusal_line`: how many bytes are printed is stored in a lent word, where there is room for the line.
+// `text_words::refusal_line_in_words`.
 #[no_mangle]
 pub extern "C" fn profile_walker_refusal_line(
     number: u16,
@@ -103,11 +81,5 @@ pub extern "C" fn profile_walker_refusal_line(
     ensures printed { λ r. ⌜ now (printed .exit) ≡ wordUnless r (lineBytes number (now (output .entry))) (now (printed .entry)) ⌝ }
     ensures output { λ r. ⌜ now (output .exit) ≡ lineLeft number (now (output .entry)) ⌝ }
 {
-    let l = refusal_line(number, output);
-    let k = l.number;
-    if k != 0 {
-        return k;
-    }
-    *printed = l.bytes;
-    0
+    text_words::refusal_line_in_words(number, output, printed)
 }

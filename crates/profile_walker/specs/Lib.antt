@@ -1,2 +1,0 @@
--- What a controller sees of the calls, in words.
-pub mod Handed
