@@ -1,7 +1,7 @@
 /*
  * The profile walker, for line controllers.
  *
- * Build the library with `rt staticlib profile_walker`; link target/staticlib/libprofile_walker.a.
+ * Build the library by `rt lib` in crates/profile_walker; link crates/profile_walker/out/libprofile_walker.a.
  * It needs no other library, allocates nothing, keeps nothing between calls and never blocks.
  * docs/INTEGRATION.md says in which order to call, and what to do at a jam.
  *

@@ -9,13 +9,13 @@ fn main() {
     println!("cargo::rerun-if-env-changed=PROFILE_WALKER_LIB");
     let package = PathBuf::from(env::var_os("CARGO_MANIFEST_DIR").unwrap_or_default());
     let named = env::var_os("PROFILE_WALKER_LIB").filter(|folder| !folder.is_empty());
-    let folder = package.join(named.unwrap_or_else(|| "../../target/staticlib".into()));
+    let folder = package.join(named.unwrap_or_else(|| "../../crates/profile_walker/out".into()));
     let archive = folder.join(ARCHIVE);
     println!("cargo::rerun-if-changed={}", archive.display());
     if !archive.is_file() {
         println!(
-            "cargo::error={} is missing: run `rt staticlib profile_walker` in the root of the \
-             repository, or name the folder of {ARCHIVE} in PROFILE_WALKER_LIB",
+            "cargo::error={} is missing: run `rt lib` in the repository's folder \
+             crates/profile_walker, or name the folder of {ARCHIVE} in PROFILE_WALKER_LIB",
             archive.display()
         );
         return;

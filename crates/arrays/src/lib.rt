@@ -2,6 +2,8 @@
 //
 // Every public function takes any input at all: it is refused with its number of document 01 and
 // changes nothing, or it does its work. Document 01's element is a vertex here, its reference an edge.
+#![tactic(auto)]
+
 ghost use Rattle.std.specs.Prelude.{◌≡◌, List, [], map, ℕ, ◌+◌, ◌-◌, ◌≤◌, length};
 ghost use Rattle.lists.specs.Words.{overlay, pasted};
 ghost use Rattle.graphs.specs.Image.{to, edges_of};

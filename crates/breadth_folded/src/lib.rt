@@ -3,6 +3,8 @@
 //
 // The public function takes any input at all: it is refused with its number of document 01 and
 // changes nothing, or it does its work. Document 01's element is a vertex here, its reference an edge.
+#![tactic(auto)]
+
 ghost use Rattle.std.specs.Prelude.{◌≡◌, []};
 ghost use Rattle.images.specs.Checking.{image};
 ghost use Rattle.walks.specs.Promises.{BreadthPromise};
@@ -28,7 +30,7 @@ fn last_node(n: u16, m: u16, x: u16, after: &[u16]) -> u16
 }
 
 // What a scan gives: the last node examined, the last node of the queue, the vertex that waits next, 0 where none does, and the tally.
-#[derive(Drop)]
+#[derive(Clone, Copy)]
 pub(crate) struct Scanned {
     pub e: u16,
     pub f: u16,

@@ -9,7 +9,7 @@ use crate::listing::{FIRST_POSITIONS, ORDERED_EDGES, ORDERED_TAILS, area_differs
 use crate::tally::{Outcome, also};
 
 // The sizes that a conversion is given, and the lengths that its areas are lent at.
-#[derive(Drop)]
+#[derive(Clone, Copy)]
 pub(crate) struct Given {
     pub(crate) n: u16,
     pub(crate) m: u16,

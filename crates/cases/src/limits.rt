@@ -9,7 +9,7 @@ use crate::tally::{Outcome, expected};
 
 // The sizes and the lengths that a call is given, a vertex, and a word in place of another. The first
 // length is of after or firsts, the second of tail or tails.
-#[derive(Drop)]
+#[derive(Clone, Copy)]
 struct Row {
     n: u16,
     m: u16,

@@ -64,7 +64,7 @@ pub(crate) fn read_twice(d: &mut Desk, text: &[u8], of_after: usize, of_tail: us
 
 // One byte of a text damaged: 0 another byte for it, 1 no byte, 2 another byte before it, 3 the byte twice, 4 nothing from it on;
 // else nothing is damaged.
-#[derive(Drop)]
+#[derive(Clone, Copy)]
 pub(crate) struct Damage {
     pub(crate) kind: u16,
     pub(crate) place: usize,

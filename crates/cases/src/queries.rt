@@ -12,7 +12,7 @@ use crate::listing::{
 use crate::tally::{Outcome, also};
 
 // A query of the array form on the desk: the sizes, the lengths that the areas are lent at, and the vertex.
-#[derive(Drop)]
+#[derive(Clone, Copy)]
 pub(crate) struct Query {
     pub(crate) n: u16,
     pub(crate) m: u16,

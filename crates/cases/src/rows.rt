@@ -31,7 +31,7 @@ fn put_digits(d: &mut Desk, area: usize, top: usize, x: u64) {
 }
 
 // A small image: the words of each area are the digits of a number.
-#[derive(Drop)]
+#[derive(Clone, Copy)]
 struct ImageRow {
     n: u16,
     m: u16,
@@ -137,7 +137,7 @@ fn convert_small(d: &mut Desk, i: usize) -> Outcome {
 }
 
 // A small array form and a query of it, with its part.
-#[derive(Drop)]
+#[derive(Clone, Copy)]
 struct QueryRow {
     n: u16,
     m: u16,

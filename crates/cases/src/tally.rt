@@ -1,5 +1,6 @@
 // What the cases gave, counted and printed.
 use crate::areas::next;
+use std::io;
 
 // The outcome of a case is one number: what the call answered, as a number of document 01 (0: taken), and 100 more where that, or a
 // lent word, is not what the second implementation says.
@@ -33,14 +34,13 @@ pub(crate) fn count(t: &mut Tally, o: Outcome) {
 }
 
 // One line: the name, the cases, those that differ, and how many answered each number.
-pub(crate) fn print_tally(name: &[u8], t: &Tally) {
-    io::write_all(1, name);
+pub(crate) fn print_tally(rt: &impl Print, name: &[u8], t: &Tally) -> io::Result<()> {
+    rt.write_all(name)?;
     let mut i: usize = 0;
     while i < 16 {
-        io::write_all(1, b",");
         let x = t[(i + 14) % 16];
-        io::print_decimal(1, x as u64);
+        print!(rt; ",{x}")?;
         i += 1;
     }
-    io::write_all(1, b"\n");
+    rt.write_all(b"\n")
 }

@@ -8,7 +8,7 @@ use crate::writer::{PADDED, UNPADDED, Written};
 
 // The sizes and the start that a text states, its lines, between so many vertices; a value in place of the first from or to; the
 // power of ten from which numbers have their digits; one damage; where the text is to end, or 0; the lengths of the areas.
-#[derive(Drop)]
+#[derive(Clone, Copy)]
 struct Row {
     n: u64,
     m: u64,

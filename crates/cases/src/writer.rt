@@ -57,7 +57,7 @@ pub(crate) fn put_field(text: &mut Text, at: usize, x: u64, least: u64, stop: u8
 
 // What is written of the drawn listing: the sizes and the start that the text states, its lines, a value that is put in place of a
 // from and of a to, on lines counted from 0, and the power of ten from which every number has its digits.
-#[derive(Drop)]
+#[derive(Clone, Copy)]
 pub(crate) struct Written {
     pub(crate) n: u64,
     pub(crate) m: u64,

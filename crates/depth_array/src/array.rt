@@ -14,12 +14,12 @@ use images::{Edge, Vertex};
 use walks::{Walked, array_walk_number, begin, clear, emit, label, refused};
 
 // A position in the tails.
-#[derive(Drop)]
+#[derive(Clone, Copy)]
 pub(crate) struct Position(pub u16);
 
 // The place that the search has come to: the vertex being scanned, the position next to traverse, the parent of that vertex, 0 for the
 // start, and the tally.
-#[derive(Drop)]
+#[derive(Clone, Copy)]
 pub(crate) struct Place {
     pub v: Vertex,
     pub p: Position,

@@ -3,6 +3,8 @@
 //
 // The public function takes any input at all: it is refused with its number of document 01 and
 // changes nothing, or it does its work. Document 01's element is a vertex here, its reference an edge.
+#![tactic(auto)]
+
 ghost use Rattle.std.specs.Prelude.{◌≡◌, ◌≢◌, [], ◌∷◌, ◌+◌, ◌≤◌};
 ghost use Rattle.graphs.specs.Image.{graph_of};
 ghost use Rattle.graphs.specs.Refusals.{lent, unless_refused};
@@ -17,7 +19,7 @@ use walks::{Walked, begin, clear, emit, label, refused, walk_number};
 
 // The place that the search has come to: the vertex being scanned, the edge next to traverse, null where none is left, the tree edge into
 // that vertex, null for the start, and the tally.
-#[derive(Drop)]
+#[derive(Clone, Copy)]
 pub(crate) struct Place {
     pub v: Vertex,
     pub e: Edge,

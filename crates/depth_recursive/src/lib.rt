@@ -3,6 +3,8 @@
 //
 // The public function takes any input at all: it is refused with its number of document 01 and
 // changes nothing, or it does its work. Document 01's element is a vertex here, its reference an edge.
+#![tactic(auto)]
+
 ghost use Rattle.std.specs.Prelude.{[]};
 ghost use Rattle.images.specs.Checking.{image};
 ghost use Rattle.walks.specs.Promises.{DepthPromise};

@@ -1,6 +1,8 @@
 // The folded depth-first search: single steps, and runs of them.
 //
 // Every public function takes any input at all: it is refused with its number of document 01 and changes nothing, or it does its work.
+#![tactic(auto)]
+
 mod back;
 mod calls;
 mod forward;

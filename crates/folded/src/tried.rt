@@ -8,7 +8,7 @@ ghost use Rattle.folded.specs.Steps.{tried, out};
 use states::State;
 
 // Whether the words that the step reads are in kind, the events in the area so far, and the state.
-#[derive(Drop)]
+#[derive(Clone, Copy)]
 pub struct Tried {
     pub fits: bool,
     pub made: usize,

@@ -4,6 +4,8 @@
 // cases: how many there are, how many differ, and how many calls were taken, refused with each number of document 01, or stopped for each
 // reason; how many profiles have each kind of list; how often an edge was met to a vertex marked 65,535, the end of a roll-back left such a
 // mark, a scan took one, and a list cut every circle. A shift start answers nothing and is not among the calls counted.
+#![tactic(auto)]
+
 mod areas;
 mod blanks;
 mod calls;
@@ -24,6 +26,7 @@ mod turns;
 
 use crate::areas::Desk;
 use crate::tally::{count_case, print_counts};
+use std::io;
 
 fn case(d: &mut Desk, group: u16, i: u16) {
     match group {
@@ -54,29 +57,28 @@ fn run(d: &mut Desk, group: u16, top: u16) {
 }
 
 // Runs the first `top` cases of a group and prints what they gave.
-fn print(name: &[u8], group: u16, top: u16) {
+fn print(rt: &impl Print, name: &[u8], group: u16, top: u16) -> io::Result<()> {
     let mut d = [0u16; 178530];
     run(&mut d, group, top);
-    print_counts(name, &d);
+    print_counts(rt, name, &d)
 }
 
-fn main() {
-    io::write_all(
-        1,
+fn main(rt: HostRuntime) -> io::Result<()> {
+    rt.write_all(
         b"group,cases,differing,taken,1,2,3,4,5,6,7,8,9,10,11,17,18,ended,spent,stuck,empty,one,some,all,near,last,touched,spared,scanned,cut\n",
-    );
-    print(b"openings: every set of faults", 0, 2048);
-    print(b"openings: damaged links", 1, 4000);
-    print(b"openings: damaged lists", 12, 8000);
-    print(b"lists: examples", 13, 86);
-    print(b"halted after every step and resumed", 2, 34560);
-    print(b"halted after every step and rolled back", 3, 17280);
-    print(b"lists of calls", 4, 10000);
-    print(b"states and links by chance", 5, 20000);
-    print(b"limits", 6, 108);
-    print(b"scripts", 7, 10000);
-    print(b"marks: examples", 11, 126);
-    print(b"accepting: examples", 8, 108);
-    print(b"accepting: states by chance", 9, 20000);
-    print(b"panel: lists of orders", 10, 500);
+    )?;
+    print(&rt, b"openings: every set of faults", 0, 2048)?;
+    print(&rt, b"openings: damaged links", 1, 4000)?;
+    print(&rt, b"openings: damaged lists", 12, 8000)?;
+    print(&rt, b"lists: examples", 13, 86)?;
+    print(&rt, b"halted after every step and resumed", 2, 34560)?;
+    print(&rt, b"halted after every step and rolled back", 3, 17280)?;
+    print(&rt, b"lists of calls", 4, 10000)?;
+    print(&rt, b"states and links by chance", 5, 20000)?;
+    print(&rt, b"limits", 6, 108)?;
+    print(&rt, b"scripts", 7, 10000)?;
+    print(&rt, b"marks: examples", 11, 126)?;
+    print(&rt, b"accepting: examples", 8, 108)?;
+    print(&rt, b"accepting: states by chance", 9, 20000)?;
+    print(&rt, b"panel: lists of orders", 10, 500)
 }

@@ -1,5 +1,6 @@
 // What the cases gave, counted and printed.
 use crate::areas::{DIFFERS, Desk, raise, said, say};
+use std::io;
 
 // From this word of a case on: how many cases there are, how many differ, and how many calls gave each answer.
 const COUNTS: usize = 50;
@@ -46,20 +47,19 @@ fn is_printed(i: usize) -> bool {
     }
 }
 
-fn print_count(w: u16) {
-    io::write_all(1, b",");
-    io::print_decimal(1, w as u64);
+fn print_count(rt: &impl Print, w: u16) -> io::Result<()> {
+    print!(rt; ",{w}")
 }
 
 // One line: the name and the counts.
-pub(crate) fn print_counts(name: &[u8], d: &Desk) {
-    io::write_all(1, name);
+pub(crate) fn print_counts(rt: &impl Print, name: &[u8], d: &Desk) -> io::Result<()> {
+    rt.write_all(name)?;
     let mut i: usize = 0;
     while i < 35 {
         if is_printed(i) {
-            print_count(said(d, COUNTS + i));
+            print_count(rt, said(d, COUNTS + i))?;
         }
         i += 1;
     }
-    io::write_all(1, b"\n");
+    rt.write_all(b"\n")
 }

@@ -373,6 +373,12 @@ unfolding run_number step_number
 alike-number w (run_for k area) (run_for j other) (e, s) = alike-areas w (refuse 4 (vertex_out w.n w.start) ∷ refuse 8 (not (fields_in w)) ∷ []) s
 alike-number w (single area) (single other) s = alike-areas w (refuse 4 (vertex_out w.n w.start) ∷ refuse 8 (not (fields_in w)) ∷ step_refusals w) s
 alike-number w roll_back roll_back s = refl
+alike-number w (run_for k area) (single other) s = elim s [ ]
+alike-number w (run_for k area) roll_back s = elim s [ ]
+alike-number w (single area) (run_for j other) s = elim s [ ]
+alike-number w (single area) roll_back s = elim s [ ]
+alike-number w roll_back (run_for j other) s = elim s [ ]
+alike-number w roll_back (single other) s = elim s [ ]
 
 alike-perform : (w : Config) (c d : Call) → SameCall c d → SameReply (perform w c) (perform w d)
 alike-perform w (run_for k area) (run_for j other) (e, s) = record {
@@ -383,6 +389,12 @@ alike-perform w (run_for k area) (run_for j other) (e, s) = record {
 }
 alike-perform w (single area) (single other) s = record { answer = refl; steps = refl; events = refl; config = refl }
 alike-perform w roll_back roll_back s = record { answer = refl; steps = refl; events = refl; config = refl }
+alike-perform w (run_for k area) (single other) s = elim s [ ]
+alike-perform w (run_for k area) roll_back s = elim s [ ]
+alike-perform w (single area) (run_for j other) s = elim s [ ]
+alike-perform w (single area) roll_back s = elim s [ ]
+alike-perform w roll_back (run_for j other) s = elim s [ ]
+alike-perform w roll_back (single other) s = elim s [ ]
 
 alike-serve : (w : Config) (c d : Call) → SameCall c d → SameReply (serve w c) (serve w d)
 unfolding serve
@@ -478,10 +490,18 @@ noted-same l m c d r s S k R = record {
     ordered (run_for k area) (run_for j other) q e = refl
     ordered (single area) (single other) q e = refl
     ordered roll_back roll_back q e = ap (orders roll_back) e
+    ordered (run_for k area) (single other) q {a = a} {b = b} e = elim q [ ]
+    ordered (run_for k area) roll_back q {a = a} {b = b} e = elim q [ ]
+    ordered (single area) (run_for j other) q {a = a} {b = b} e = elim q [ ]
+    ordered (single area) roll_back q {a = a} {b = b} e = elim q [ ]
+    ordered roll_back (run_for j other) q {a = a} {b = b} e = elim q [ ]
+    ordered roll_back (single other) q {a = a} {b = b} e = elim q [ ]
 
 calls_same : (l m : Line) → SameLine l m → (cs ds : List Call) → SameCalls cs ds → SameLine (calls folded l cs) (calls folded m ds)
 unfolding calls
 calls_same l m S [] [] k = S
+calls_same l m S [] (d ∷ ds) k = elim k [ ]
+calls_same l m S (c ∷ cs) [] k = elim k [ ]
 calls_same l m S (c ∷ cs) (d ∷ ds) (k, ks) =
     let r = serve l.config c in
     let s = serve m.config d in

@@ -43,7 +43,7 @@ pub fn tail_out(n: u16, m: u16, tail: &[u16]) -> bool
 }
 
 // Whether each edge of a list was new, and how many edges are flagged now.
-#[derive(Drop)]
+#[derive(Clone, Copy)]
 pub(crate) struct Flagged {
     pub new: bool,
     pub count: u16,

@@ -2,11 +2,11 @@
 ghost use Rattle.std.specs.Prelude.{◌≡◌};
 ghost use Rattle.graphs.specs.Nodes.{is_vertex, is_link};
 
-#[derive(Drop)]
+#[derive(Clone, Copy)]
 pub struct Vertex(pub u16);
 
 // 0 is null.
-#[derive(Drop)]
+#[derive(Clone, Copy)]
 pub struct Edge(pub u16);
 
 // Whether v is one of the vertices 1 to n.

@@ -1,10 +1,12 @@
 // Numbers of the text.
+#![tactic(auto)]
+
 ghost use Rattle.std.specs.Prelude.{◌≡◌, ◌+◌, ◌<◌};
 ghost use Rattle.numbers.specs.Decimal.{decimal_length, written, put_at, past_at, is_digit, number_at};
 ghost use Rattle.numbers.specs.Answers.{number_found};
 
 // A number, and the place past it; or digits not in form.
-#[derive(Drop)]
+#[derive(Clone, Copy)]
 pub enum Number {
     Found { value: u16, next: usize },
     Out,

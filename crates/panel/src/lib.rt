@@ -2,6 +2,8 @@
 // with plain parameters above them.
 //
 // Every public function takes any input at all.
+#![tactic(auto)]
+
 ghost use Rattle.std.specs.Prelude.{◌≡◌, []};
 ghost use Rattle.folding.specs.Calls.{accept_number};
 ghost use Rattle.states.specs.Answers.{config_of};
@@ -10,27 +12,27 @@ ghost use Rattle.panel.specs.Panel.{new_panel, accepted_of, shifted_of, AcceptPr
 use walkers::{State, state_number};
 
 // How many cards were accepted since the last shift start.
-#[derive(Drop)]
+#[derive(Clone, Copy)]
 pub struct Panel {
     pub figure: u32,
 }
 
 // The answer to accepting: its number, 0 where it is taken, and the state.
-#[derive(Drop)]
+#[derive(Clone, Copy)]
 pub struct Accepted {
     pub number: u16,
     pub state: State,
 }
 
 // The record and the answer, by value.
-#[derive(Drop)]
+#[derive(Clone, Copy)]
 pub struct Counted {
     pub panel: Panel,
     pub answer: Accepted,
 }
 
 // The answer to the last card of a shift, the figure of the shift that ends, and the figure of the next one.
-#[derive(Drop)]
+#[derive(Clone, Copy)]
 pub struct ShiftEnded {
     pub answer: Accepted,
     pub figure: u32,

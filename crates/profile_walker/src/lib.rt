@@ -4,6 +4,8 @@
 // with which document 01 turns it back, and then changes nothing, or 0. A state is nine lent words, the panel is one lent word. Each is one
 // line: it promises what the inner call of its name promises (`tally_words`, `state_words` and `text_words` hand over words), and calls it.
 // Every call takes any input at all.
+#![tactic(auto)]
+
 mod cards;
 mod profiles;
 mod searches;

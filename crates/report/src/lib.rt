@@ -1,4 +1,6 @@
 // From a profile's text to what `walk` prints, and the line of a refusal.
+#![tactic(auto)]
+
 mod lines;
 mod text;
 mod walk;

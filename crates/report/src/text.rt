@@ -8,7 +8,7 @@ use crate::walk::walk_whole;
 use texts::{Profile, read_profile};
 
 // The number of a refusal, 0 where the call is taken, and how many bytes are printed.
-#[derive(Drop)]
+#[derive(Clone, Copy)]
 pub struct Report {
     pub number: u16,
     pub bytes: usize,

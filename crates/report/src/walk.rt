@@ -9,7 +9,7 @@ use images::Vertex;
 use walkers::{open, run};
 
 // The number of events, the elements reached, the moves made, and circular.
-#[derive(Drop)]
+#[derive(Clone, Copy)]
 pub struct Totals {
     pub events: usize,
     pub elements: u16,

@@ -2,6 +2,8 @@
 //
 // Every public function takes any input at all. Document 01's element is a vertex here, its reference an edge, its move a step, its
 // winding order a roll-back order, its allowance a budget.
+#![tactic(auto)]
+
 mod judge;
 mod opening;
 mod order;

@@ -7,7 +7,7 @@ use images::{Edge, Vertex};
 
 // v is the vertex being scanned, e the edge next to traverse or null, f the trailer, next the next label number. All of them are untrusted
 // numbers: every call tests their ranges.
-#[derive(Drop)]
+#[derive(Clone, Copy)]
 pub struct State {
     pub n: u16,
     pub m: u16,
@@ -21,7 +21,7 @@ pub struct State {
 }
 
 // Why a run stopped.
-#[derive(Drop)]
+#[derive(Clone, Copy)]
 pub enum Reason {
     Ended,
     Spent,
@@ -29,7 +29,7 @@ pub enum Reason {
 }
 
 // A run taken, another call taken, or a call refused with its number.
-#[derive(Drop)]
+#[derive(Clone, Copy)]
 pub enum Answer {
     Ran(Reason),
     Taken,
@@ -37,7 +37,7 @@ pub enum Answer {
 }
 
 // The answer, the steps made, the number of events written, and the state.
-#[derive(Drop)]
+#[derive(Clone, Copy)]
 pub struct Reply {
     pub answer: Answer,
     pub steps: u32,

@@ -1,5 +1,7 @@
 // The five whole-run walkers as a controller calls them: the start is a word, the answer a number, and the tally of a walk is stored in seven
 // lent words. Each takes any input at all: fewer than seven words are one short area more.
+#![tactic(auto)]
+
 ghost use Rattle.std.specs.Prelude.{◌≡◌, [], ◌∷◌, ◌≤◌, length};
 ghost use Rattle.lists.specs.Words.{overlay};
 ghost use Rattle.graphs.specs.ArrayForm.{array_graph};

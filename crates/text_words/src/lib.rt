@@ -1,5 +1,7 @@
 // A text read, a text walked and a refusal printed, as a controller calls for it: sizes and bytes are told in lent words. Each takes any input at
 // all; where it is refused it changes nothing.
+#![tactic(auto)]
+
 ghost use Rattle.std.specs.Prelude.{◌≡◌};
 ghost use Rattle.texts.specs.Loading.{reading, after_left, tail_left};
 ghost use Rattle.report.specs.Report.{report_of, told, line_number, line_bytes, line_left};

@@ -1,4 +1,6 @@
 // The reader of a profile's text. The text is judged whole before the first word is written.
+#![tactic(auto)]
+
 ghost use Rattle.std.specs.Prelude.{◌≡◌, List, map, ℕ, ◌+◌, ◌≤◌, ◌<◌, length, drop};
 ghost use Rattle.std.proofs.Math.Option.{some};
 ghost use Rattle.lists.specs.Words.{overlay, pasted, cleared};
@@ -12,14 +14,14 @@ use images::{Vertex, is_vertex};
 use numbers::{Number, read_number};
 
 // A profile loaded: its sizes and its start; or the number of a text refused.
-#[derive(Drop)]
+#[derive(Clone, Copy)]
 pub enum Profile {
     Loaded { n: u16, m: u16, start: Vertex },
     Refused(u16),
 }
 
 // The first three lines: their values and the place where the value lines begin; or not in form.
-#[derive(Drop)]
+#[derive(Clone, Copy)]
 pub(crate) enum HeadRead {
     Found {
         n: u16,
@@ -31,14 +33,14 @@ pub(crate) enum HeadRead {
 }
 
 // A value line, and the place past it; or not in form.
-#[derive(Drop)]
+#[derive(Clone, Copy)]
 pub(crate) enum LineRead {
     Found { from: u16, to: u16, next: usize },
     Out,
 }
 
 // Whether a from or to of the value lines is no vertex; or not in form.
-#[derive(Drop)]
+#[derive(Clone, Copy)]
 pub(crate) enum LinesJudged {
     Found(bool),
     Out,

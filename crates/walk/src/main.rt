@@ -1,15 +1,20 @@
 // `walk`: reads a profile's text from standard input and prints its folded depth-first walk, or `refused,` and the number of a text that is
 // refused. What is printed is what `report::walk_text` and `report::refusal_line` promise; here it is only read and written.
+#![tactic(auto)]
+ghost use Rattle.std.specs.Prelude.{◌≤◌, length, IfOk};
+
+use std::io;
+use std::io::Read;
 
 // Prints the line of a refusal; 14 bytes have room for that of any number.
-fn print_refusal(number: u16) {
+fn print_refusal(rt: &impl Print, number: u16) -> io::Result<()> {
     let mut line = [0u8; 14];
     let r = report::refusal_line(number, &mut line);
-    io::write_all(1, &line[..r.bytes]);
+    rt.write_all(&line[..r.bytes])
 }
 
 // Prints the walk of a text, or its refusal.
-fn print_walk(text: &[u8]) {
+fn print_walk(rt: &impl Print, text: &[u8]) -> io::Result<()> {
     let mut after = [0u16; 5000];
     let mut tail = [0u16; 4000];
     let mut marks = [0u16; 5000];
@@ -24,14 +29,29 @@ fn print_walk(text: &[u8]) {
         &mut output,
     );
     if r.number != 0 {
-        return print_refusal(r.number);
+        return print_refusal(rt, r.number);
     }
-    io::write_all(1, &output[..r.bytes]);
+    rt.write_all(&output[..r.bytes])
+}
+
+// Reads until the area is full or the input ends, and returns how many bytes were read.
+fn read_full(input: &mut impl Read, text: &mut [u8]) -> io::Result<usize>
+    ensures within { IfOk result (λ n. n ≤ length text.new) }
+{
+    let mut read: usize = 0;
+    while read < text.len() {
+        let n = input.read(&mut text[read..])?;
+        if n == 0 {
+            break;
+        }
+        read += n;
+    }
+    Ok(read)
 }
 
 // One byte more than the longest text, so that 13 is seen.
-fn main() {
+fn main(rt: HostRuntime) -> io::Result<()> {
     let mut text = [0u8; 65537];
-    let n = io::read_full(0, &mut text);
-    print_walk(&text[..n]);
+    let n = read_full(&mut rt.stdin(), &mut text)?;
+    print_walk(&rt, &text[..n])
 }

@@ -1,6 +1,8 @@
 // Runs the walkers on cases, and compares every answer and every lent word with a second implementation. One line is printed for each
 // group of cases: how many there are, how many differ, how many were answered with each number of document 01, in how many a list of the
 // elements already on the blank had each form, and in how many each thing was met that such a list can bring.
+#![tactic(auto)]
+
 mod areas;
 mod blanks;
 mod calls;
@@ -17,6 +19,7 @@ mod turns;
 
 use crate::areas::Desk;
 use crate::tally::{Outcome, count, print_counts};
+use std::io;
 
 fn case(d: &mut Desk, walker: u16, group: u16, i: u16) -> Outcome {
     match group {
@@ -39,31 +42,28 @@ fn run(d: &mut Desk, walker: u16, group: u16, top: u16) {
 }
 
 // Runs the first `top` cases of a group and prints what they gave.
-fn print(name: &[u8], of: &[u8], walker: u16, group: u16, top: u16) {
+fn print(rt: &impl Print, name: &[u8], of: &[u8], walker: u16, group: u16, top: u16) -> io::Result<()> {
     let mut d = [0u16; 102000];
     run(&mut d, walker, group, top);
-    print_counts(name, of, &d);
+    print_counts(rt, name, of, &d)
 }
 
-fn print_walker(name: &[u8], walker: u16) {
-    print(name, b": small profiles", walker, 0, 1000);
-    print(name, b": long profiles", walker, 1, 64);
-    print(name, b": every set of faults", walker, 2, 2560);
-    print(name, b": damaged links", walker, 3, 1000);
-    print(name, b": lists of words by chance", walker, 4, 1000);
-    print(name, b": written down", walker, 5, 28);
+fn print_walker(rt: &impl Print, name: &[u8], walker: u16) -> io::Result<()> {
+    print(rt, name, b": small profiles", walker, 0, 1000)?;
+    print(rt, name, b": long profiles", walker, 1, 64)?;
+    print(rt, name, b": every set of faults", walker, 2, 2560)?;
+    print(rt, name, b": damaged links", walker, 3, 1000)?;
+    print(rt, name, b": lists of words by chance", walker, 4, 1000)?;
+    print(rt, name, b": written down", walker, 5, 28)
 }
 
-fn main() {
-    io::write_all(1, b"group,cases,differing,0,1,2,3,4,5,6,7,17,18");
-    io::write_all(
-        1,
-        b",given,one,few,others,neighbours,last,half,reference,twice,loop",
-    );
-    io::write_all(1, b",null,past,equal,falling,start,longer\n");
-    print_walker(b"dfs_recursive", 0);
-    print_walker(b"dfs_parent", 1);
-    print_walker(b"dfs_array", 2);
-    print_walker(b"bfs_queue", 3);
-    print_walker(b"bfs_folded", 4);
+fn main(rt: HostRuntime) -> io::Result<()> {
+    rt.write_all(b"group,cases,differing,0,1,2,3,4,5,6,7,17,18")?;
+    rt.write_all(b",given,one,few,others,neighbours,last,half,reference,twice,loop")?;
+    rt.write_all(b",null,past,equal,falling,start,longer\n")?;
+    print_walker(&rt, b"dfs_recursive", 0)?;
+    print_walker(&rt, b"dfs_parent", 1)?;
+    print_walker(&rt, b"dfs_array", 2)?;
+    print_walker(&rt, b"bfs_queue", 3)?;
+    print_walker(&rt, b"bfs_folded", 4)
 }

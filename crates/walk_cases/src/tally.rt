@@ -1,6 +1,7 @@
 // What the cases gave, counted and printed.
 use crate::areas::{CASE, Desk, NOTES, raise, said};
 use crate::turns::{COUNTED, each};
+use std::io;
 
 // The outcome of a case is one number: what the call answered, as a number of document 01 (0: taken), and 100 more where that, or a
 // lent word, is not what the second implementation says.
@@ -69,15 +70,14 @@ pub(crate) fn count(d: &mut Desk, o: Outcome) {
 }
 
 // One line: the name in two parts, and the counts.
-pub(crate) fn print_counts(name: &[u8], of: &[u8], d: &Desk) {
-    io::write_all(1, name);
-    io::write_all(1, of);
+pub(crate) fn print_counts(rt: &impl Print, name: &[u8], of: &[u8], d: &Desk) -> io::Result<()> {
+    rt.write_all(name)?;
+    rt.write_all(of)?;
     let mut i: usize = 0;
     while i < COLUMNS {
-        io::write_all(1, b",");
         let x = said(d, CASES + i);
-        io::print_decimal(1, x as u64);
+        print!(rt; ",{x}")?;
         i += 1;
     }
-    io::write_all(1, b"\n");
+    rt.write_all(b"\n")
 }

@@ -1,6 +1,8 @@
 // What the whole-run walkers have in common: the numbers of their refusals, their answer, and what every walk writes.
 //
 // Every public function takes any input at all. Document 01's element is a vertex here, its reference an edge.
+#![tactic(auto)]
+
 mod listed;
 mod refusals;
 mod write;

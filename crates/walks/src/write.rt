@@ -7,7 +7,7 @@ ghost use Rattle.walks.specs.Writing.{total, has_room, tally_after, events_after
 use images::{Edge, Vertex};
 
 // A walker's answer: the number of its refusal, else 0, and its events by kind.
-#[derive(Drop)]
+#[derive(Clone, Copy)]
 pub struct Walked {
     pub number: u16,
     pub tally: [u32; 7],

@@ -1,0 +1,10 @@
+use Prim.Native.Nat.{◌-◌}
+use Rattle.images.specs.Checking.{list_from, flag_all}
+use Rattle.images.proofs.Checks.{Along}
+use Rattle.images.proofs.check.flag_list.Given as goal
+
+abbrev pub invariant-loop-r : goal.invariant-loop-r
+invariant-loop-r l = Along l.n l.m l.after (flag_all l.n l.initial.flags l.count (list_from l.m l.after l.first)) l.flags l.r l.c
+
+abbrev pub decreases-loop-r : goal.decreases-loop-r
+decreases-loop-r l = l.m - l.c
