@@ -2,4 +2,3 @@ pub mod Judged
 pub mod Counts
 pub mod Good
 pub mod Shifts
-pub mod Lent

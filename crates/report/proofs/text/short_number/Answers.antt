@@ -10,5 +10,4 @@ returns-in-Refused c = let all = short-told c.args.text.now c.args.after.now c.a
     record { number = all.0; links = all.1.0; tails = all.1.1 }
 
 pub returns-in-Loaded : goal.returns-in-Loaded
-returns-in-Loaded c = let all = never-told c.args.text.now _ _ _ (sym (ap answered c.in-Loaded.is) ∙ c.read_profile.ensures.answer) in
-    record { number = all.0; links = all.1.0; tails = all.1.1 }
+returns-in-Loaded c = never-told c.args.text.now _ _ _ (sym (ap answered c.in-Loaded.is) ∙ c.read_profile.ensures.answer)

@@ -15,7 +15,7 @@ tested : (c : After-are_long) → c.are_long.result ≡ not (short (lent_areas c
 tested c = let z = c.args in c.are_long.ensures z.after.now z.tail.now z.marks.now z.events.now z.output.now refl refl refl refl refl
 
 -- The image in the areas is that of a profile loaded.
-found : (c : In-Loaded) → Read (entry (?from c After-are_long)).args.text.now (entry (?from c After-are_long)).args.after.now (entry (?from c After-are_long)).args.tail.now c.in-Loaded.n c.in-Loaded.m c.in-Loaded.start.0 c.read_profile.new.after c.read_profile.new.tail
+found : (c : In-Loaded) → Read c.args.text.now c.args.after.now c.args.tail.now c.in-Loaded.n c.in-Loaded.m c.in-Loaded.start.0 c.read_profile.new.after c.read_profile.new.tail
 found c = let r = c.read_profile in read_as _ _ _ _ _ _ _ _ (sym (ap answered c.in-Loaded.is) ∙ r.ensures.answer) r.ensures.links r.ensures.tails
 
 pub returns-then-not-are_long : goal.returns-then-not-are_long
@@ -23,20 +23,20 @@ returns-then-not-are_long c =
     let z = c.args in
     let k = c.short_number-number in
     short-reported z.text.now z.after.now z.tail.now z.marks.now z.events.now z.output.now
-    (tested (goal.at.returns-then-not-are_long c).After-are_long) k.result _ _ c.if-not-are_long.true-raw k.ensures.number k.ensures.links k.ensures.tails
+    (tested (goal.at.returns-then-not-are_long c).After-are_long) k.result _ _ (ap not c.if-not-are_long.true) k.ensures.number k.ensures.links k.ensures.tails
 
 pub walk_whole-t-requires : goal.walk_whole-t-requires
-walk_whole-t-requires c = let z = c.args in can-walk z.text.now z.after.now z.tail.now z.marks.now z.events.now z.output.now (tested (goal.at.walk_whole-t-requires c).After-are_long) c.if-not-are_long.false-raw _ _ _ _ _ (found (goal.at.walk_whole-t-requires c).In-Loaded)
+walk_whole-t-requires c = let z = c.args in can-walk z.text.now z.after.now z.tail.now z.marks.now z.events.now z.output.now (tested (goal.at.walk_whole-t-requires c).After-are_long) (ap not c.if-not-are_long.false) _ _ _ _ _ (found (goal.at.walk_whole-t-requires c).In-Loaded)
 
 pub print_walk-bytes-requires : goal.print_walk-bytes-requires
-print_walk-bytes-requires c = let z = c.args in let w = c.walk_whole-t in can-print z.text.now z.after.now z.tail.now z.marks.now z.events.now z.output.now (tested (goal.at.print_walk-bytes-requires c).After-are_long) c.if-not-are_long.false-raw _ _ _ _ _ (found (goal.at.print_walk-bytes-requires c).In-Loaded) w.result _ w.ensures.totals w.ensures.events
+print_walk-bytes-requires c = let z = c.args in let w = c.walk_whole-t in can-print z.text.now z.after.now z.tail.now z.marks.now z.events.now z.output.now (tested (goal.at.print_walk-bytes-requires c).After-are_long) (ap not c.if-not-are_long.false) _ _ _ _ _ (found (goal.at.print_walk-bytes-requires c).In-Loaded) w.result _ w.ensures.totals w.ensures.events
 
 pub returns-in-Refused : goal.returns-in-Refused
 returns-in-Refused c =
     let z = c.args in
     let e = c.read_profile.ensures in
     long-reported z.text.now z.after.now z.tail.now z.marks.now z.events.now z.output.now
-    (tested (goal.at.returns-in-Refused c).After-are_long) c.in-Refused.number _ _ c.if-not-are_long.false-raw (sym (ap answered c.in-Refused.is) ∙ e.answer) e.links e.tails
+    (tested (goal.at.returns-in-Refused c).After-are_long) c.in-Refused.number _ _ (ap not c.if-not-are_long.false) (sym (ap answered c.in-Refused.is) ∙ e.answer) e.links e.tails
 
 pub returns-in-Loaded : goal.returns-in-Loaded
-returns-in-Loaded c = let z = c.args in let w = c.walk_whole-t in walk-reported z.text.now z.after.now z.tail.now z.marks.now z.events.now z.output.now (tested (goal.at.returns-in-Loaded c).After-are_long) c.if-not-are_long.false-raw _ _ _ _ _ (found (goal.at.returns-in-Loaded c).In-Loaded) w.result _ w.ensures.totals w.ensures.events _ _ _ _ _ w.ensures.links w.ensures.tails w.ensures.marks c.print_walk-bytes.ensures.next c.print_walk-bytes.ensures.words
+returns-in-Loaded c = let z = c.args in let w = c.walk_whole-t in walk-reported z.text.now z.after.now z.tail.now z.marks.now z.events.now z.output.now (tested (goal.at.returns-in-Loaded c).After-are_long) (ap not c.if-not-are_long.false) _ _ _ _ _ (found (goal.at.returns-in-Loaded c).In-Loaded) w.result _ w.ensures.totals w.ensures.events _ _ _ _ _ w.ensures.links w.ensures.tails w.ensures.marks c.print_walk-bytes.ensures.next c.print_walk-bytes.ensures.words
