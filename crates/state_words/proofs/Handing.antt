@@ -52,12 +52,11 @@ module _ (steps made reason : ℕ) (state : List ℕ) where
   seen-handed q e = ap (λ (s : Seen). handed_seen s.answer s steps made reason state) e ∙ by_answer q.answer q
 
   -- Of an answer that is none of a refusal, as the code tests it.
-  pub seen-taken : (a : Answer) (s : Seen) → (tag_of the_type a ≡ 0) ⊎ (tag_of the_type a ≡ 1)
+  pub seen-taken : (a : Answer) (s : Seen) → ((k : ℕ) → a ≡ answer.Refused k → ⊥)
       → handing 0 s.steps s.count (reason_in (answer_of a)) (overlay (config_words s.config) state) s.config.after s.config.tail s.config.marks s.area ≡ handed_seen (answer_of a) s steps made reason state
   seen-taken (answer.Ran why) s h = refl
   seen-taken answer.Taken s h = refl
-  seen-taken (answer.Refused k) s (inl e) = absurd (eqb-false 2 0 refl e)
-  seen-taken (answer.Refused k) s (inr e) = absurd (eqb-false 2 1 refl e)
+  seen-taken (answer.Refused k) s h = absurd (h k refl)
 
 -- ---- accepting
 module _ (figure : ℕ) (state : List ℕ) where

@@ -14,7 +14,7 @@ pub returns-then-counts-lt7 : goal.returns-then-counts-lt7
 returns-then-counts-lt7 c =
     let a = c.args in
     let k = walk-short (image a.n a.m a.after.now a.tail.now) a.before.now a.start a.marks.now a.events.now [] a.counts.now c.walk_number.ensures c.if-counts-lt7.true in
-    (k.0, refused _ _ a.counts.now k.1, refused _ _ a.marks.now k.1, refused _ _ a.events.now k.1)
+    record { walk = (k.0, refused _ _ a.counts.now k.1, refused _ _ a.marks.now k.1, refused _ _ a.events.now k.1) }
 
 pub returns-then-k-ne0 : goal.returns-then-k-ne0
 returns-then-k-ne0 c =
@@ -22,7 +22,7 @@ returns-then-k-ne0 c =
     let e = c.dfs_recursive-w.ensures in
     let is = e.number_is ∙ walk-long (image a.n a.m a.after.now a.tail.now) a.before.now a.start a.marks.now a.events.now [] a.counts.now c.if-counts-lt7.false in
     let q = answered e refl in
-    (is, refused _ _ a.counts.now c.if-k-ne0.true, q.1.0, q.1.1)
+    record { walk = (is, refused _ _ a.counts.now c.if-k-ne0.true, q.1.0, q.1.1) }
 
 pub returns : goal.returns
 returns c =
@@ -31,4 +31,4 @@ returns c =
     let z = c.if-k-ne0.false in
     let is = e.number_is ∙ walk-long (image a.n a.m a.after.now a.tail.now) a.before.now a.start a.marks.now a.events.now [] a.counts.now c.if-counts-lt7.false in
     let q = answered e z in
-    (sym z ∙ is, c.write_tally.ensures ∙ ap (λ (t : List ℕ). overlay t a.counts.now) q.0, q.1.0, q.1.1)
+    record { walk = (sym z ∙ is, c.write_tally.ensures ∙ ap (λ (t : List ℕ). overlay t a.counts.now) q.0, q.1.0, q.1.1) }

@@ -18,5 +18,5 @@ returns c =
     λ q after tail marks area e.
     (let z = c.args in
     (λ i. handing 0 z.r.steps z.r.events (c.reason_in.ensures i) (c.write_state.ensures i) after tail marks area)
-    ∙ seen-taken z.steps.now z.made.now z.reason.now z.state.now z.r.answer (told z.r after tail marks area) c.in_default.keys2
+    ∙ seen-taken z.steps.now z.made.now z.reason.now z.state.now z.r.answer (told z.r after tail marks area) c.in_default.not-Refused
     ∙ seen-handed z.steps.now z.made.now z.reason.now z.state.now q e)
