@@ -4,7 +4,7 @@ use mathlib.Core.Path.{◌≡◌, refl, sym, ap, ◌∙◌}
 use mathlib.Core.Logic.{◌≢◌, ◌⊎◌, inl, inr}
 use mathlib.Core.Bool.{Bool, true, false, ◌||◌, not}
 use mathlib.Core.List.{List, [], ◌∷◌, ◌++◌}
-use Prim.Native.Nat.{ℕ, zero, suc, ◌+◌, ◌*◌, ◌≤◌, ◌<◌}
+use Prim.Native.Nat.{ℕ, zero, suc, ◌*◌, ◌≤◌, ◌<◌}
 use native.Mathlib.Omega.{arith}
 use lib.Dec.{eqb, ltb, leb}
 use borrow.Author.Tests.{eqb-false, le-leb, lt-leb, ltb-true, leb-true, leb-false}
@@ -16,7 +16,7 @@ use Rattle.graphs.proofs.Refusals.{all-false, first_rest}
 use Rattle.graphs.proofs.Depth.{depth-first}
 use Rattle.graphs.proofs.Room.{profile-ready}
 use Rattle.folding.specs.Machine.{Config, finished, rolling_back, accepted, can_step}
-use Rattle.folding.specs.Calls.{Answer, taken, refused, unless, over, state_number, accept_number, roll_back_number, number_of, perform, area_of, Call, run_for, single, roll_back, serve, proceed, run, in_phase, open_number, unopened, fields_in, work_areas, step_refusals, accept_refusals, run_number, step_number}
+use Rattle.folding.specs.Calls.{taken, refused, unless, over, state_number, accept_number, roll_back_number, number_of, perform, area_of, Call, run_for, single, roll_back, serve, proceed, run, in_phase, open_number, unopened, fields_in, work_areas, step_refusals, accept_refusals, run_number, step_number}
 use Rattle.folding.specs.Lines.{Line, noted, calls, line_a, line_b, folded}
 use Rattle.folding.specs.Claims.{Agrees, UnderWay, OrderClaim}
 use Rattle.folding.specs.Accepting.{GoodCard, CardClaim, OnceClaim}

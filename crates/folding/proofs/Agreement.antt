@@ -34,7 +34,7 @@ use Rattle.graphs.proofs.Room.{profile-ready}
 use Rattle.graphs.proofs.Stated.{same-links}
 use Rattle.graphs.proofs.Places.{Frame, finishing}
 use Rattle.folding.specs.Machine.{Config, walking, restoring, finished, rolling_back, rolled_back}
-use Rattle.folding.specs.Calls.{Reason, ended, spent, stuck, Reply, unless, over, run, Call, run_for, number_of, perform, serve, opening, open_number, unopened, opened_at, open_reply}
+use Rattle.folding.specs.Calls.{Reason, ended, spent, stuck, Reply, unless, over, run, Call, run_for, perform, serve, opening, open_number, unopened, opened_at, open_reply}
 use Rattle.folding.specs.Lines.{Walker, Line, add_if, noted, begun, calls, line_a, line_b, folded}
 use Rattle.folding.specs.Claims.{stop_reason, Faultless, Labelling, Ended, Demand2, Agrees, Agreement}
 use Rattle.folding.proofs.Steps.{few-labels}

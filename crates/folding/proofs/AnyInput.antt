@@ -2,18 +2,16 @@
 -- A call that is not refused stays within its areas.
 use mathlib.Core.Path.{◌≡◌, refl, sym, ap, ◌∙◌, subst}
 use mathlib.Core.Logic.{◌≢◌}
-use mathlib.Core.Bool.{Bool, true, cond, not, ◌&&◌}
+use mathlib.Core.Bool.{Bool, true, not, ◌&&◌}
 use mathlib.Core.List.{List, [], ◌∷◌}
 use Prim.Native.Nat.{ℕ, zero, suc, ◌+◌, ◌*◌, ◌≤◌}
 use native.Mathlib.Omega.{arith}
 use lib.ListN.{length, drop}
-use lib.Dec.{leb}
-use borrow.Author.Tests.{not-false, ne_eqb}
-use Rattle.lists.specs.Words.{at, put, overlay}
-use Rattle.lists.proofs.Tests.{and-unit}
-use Rattle.lists.proofs.Words.{length-put, length-filled, put-past, filled-past, filled-same, cleared-filled}
+use borrow.Author.Tests.{not-false}
+use Rattle.lists.specs.Words.{overlay}
+use Rattle.lists.proofs.Words.{length-put, length-filled, put-past, filled-past}
 use Rattle.graphs.specs.Events.{Event, event, label, words}
-use Rattle.graphs.specs.Results.{active_mark, blank_mark, rest_mark, unless_blank, marks_first}
+use Rattle.graphs.specs.Results.{unless_blank, marks_first}
 use Rattle.graphs.specs.Image.{Image}
 use Rattle.graphs.specs.Refusals.{first_of, lent}
 use Rattle.graphs.proofs.Refusals.{all-false, long}
@@ -22,7 +20,7 @@ use Rattle.graphs.proofs.Room.{words-length}
 use Rattle.folding.specs.Machine.{Config, rolling_back, label_mark, can_step, step}
 use Rattle.folding.specs.Calls.{Reason, Answer, ran, taken, refused, Reply, refusing, unless, work_areas, run_number, step_refusals, step_number, in_phase, run, Call, run_for, single, roll_back, area_of, number_of, perform, serve, unopened, open_number, opened_at, open_reply, opening}
 use Rattle.folding.specs.Lines.{folded}
-use Rattle.folding.specs.Claims.{Judged, Within, Confined, Demand1, StepClaim, Tested, told_run, RunClaim, NoBlanksClaim}
+use Rattle.folding.specs.Claims.{Judged, Within, Confined, Demand1, StepClaim, Tested, told_run, RunClaim}
 use Rattle.folding.proofs.Passed.{passed, lengths}
 use Rattle.folding.proofs.Confined.{within-refl, Kept, step_kept, RunKept, run-kept}
 use Rattle.folding.proofs.Runs.{run-stops}

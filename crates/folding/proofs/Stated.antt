@@ -9,20 +9,20 @@ use native.Mathlib.Omega.{arith}
 use lib.ListN.{length, take, drop}
 use lib.Seq.{take_at, take-take}
 use lib.Dec.{eqb, ltb, leb}
-use borrow.Author.Tests.{eqb-false, ltb-true, ltb-false, not-true}
+use borrow.Author.Tests.{eqb-false, ltb-false, not-true}
 use Rattle.lists.specs.Words.{at, put, overlay, values_from}
 use Rattle.lists.proofs.Tests.{clash, both, and-true}
 use Rattle.lists.proofs.Words.{at_take, take_put, take-filled, filled-same, length-values}
 use Rattle.graphs.specs.Nodes.{Vertex, Edge, is_vertex, is_edge, is_link, is_node}
-use Rattle.graphs.specs.Events.{Event, event, advance_tree, advance_nontree, retreat_nontree, retreat_tree, label, scan, words}
+use Rattle.graphs.specs.Events.{event, advance_tree, advance_nontree, retreat_nontree, retreat_tree, label, scan, words}
 use Rattle.graphs.specs.Results.{unless_blank, marks_first, rest_mark, marks_rest}
 use Rattle.graphs.specs.Image.{Image, stated, SameLinks}
-use Rattle.graphs.specs.Refusals.{Refusal, refuse, first_of, Lent, lent, short, vertices_out, edges_out, vertex_out}
+use Rattle.graphs.specs.Refusals.{Refusal, refuse, first_of, Lent, short, vertices_out, edges_out, vertex_out}
 use Rattle.graphs.proofs.Nodes.{vertex-is, edge-is, link-not-null}
 use Rattle.graphs.proofs.Sound.{profile_sound}
 use Rattle.graphs.proofs.Stated.{short-stated, same-links}
-use Rattle.folding.specs.Machine.{Config, walking, restoring, finished, rolling_back, rolled_back, target, forward, fresh, mark_ahead, Step, tree, nontree, relink, retreat, finish, undo_tree, undo_open, pick_step, step_of, closed, upward, label_mark, scan_mark, unscanned, scanned_marks, fits, Stepped, relinked, enact, can_step, step}
-use Rattle.folding.specs.Calls.{Answer, ran, taken, refused, Reply, refusing, unless, over, fields_in, state_number, work_areas, step_refusals, run_number, step_number, roll_back_number, in_phase, Run, onward, proceed, run, Call, run_for, single, roll_back, area_of, number_of, perform, serve, unopened, open_number, opened_at, open_reply, opening}
+use Rattle.folding.specs.Machine.{Config, walking, finished, rolling_back, rolled_back, target, forward, fresh, mark_ahead, Step, tree, nontree, relink, retreat, finish, undo_tree, undo_open, pick_step, step_of, closed, upward, label_mark, scan_mark, unscanned, scanned_marks, fits, Stepped, relinked, enact, can_step, step}
+use Rattle.folding.specs.Calls.{Answer, ran, taken, Reply, unless, over, fields_in, state_number, work_areas, step_refusals, run_number, step_number, roll_back_number, Run, onward, proceed, run, Call, run_for, single, roll_back, area_of, number_of, perform, serve, unopened, open_number, opened_at, open_reply, opening}
 use Rattle.folding.specs.Lines.{Line, orders, add_if, noted, calls, begun, folded}
 use Rattle.folding.specs.Stated.{stated_in, SameCall, SameCalls, SameReply, SameLine, open_areas, SameLinksClaim}
 use Rattle.folding.proofs.Fields.{Fields, fields-are}

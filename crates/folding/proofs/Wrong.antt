@@ -18,12 +18,12 @@ use Rattle.graphs.proofs.Sound.{profile_sound}
 use Rattle.graphs.proofs.Depth.{depth-first}
 use Rattle.graphs.proofs.Room.{profile-ready}
 use Rattle.graphs.specs.Refusals.{after_out, tail_out, list_out, search_number}
-use Rattle.folding.specs.Machine.{Config, finished, step_of, fits, enact}
-use Rattle.folding.specs.Calls.{Reason, spent, stuck, ran, Reply, Call, run_for, single, roll_back, run, serve, opened_at, opening, open_number, fields_in, run_number, step_number, roll_back_number}
+use Rattle.folding.specs.Machine.{finished, step_of, fits, enact}
+use Rattle.folding.specs.Calls.{Reason, spent, stuck, ran, Reply, run_for, single, roll_back, run, serve, opened_at, opening, open_number, fields_in, run_number, step_number, roll_back_number}
 use Rattle.folding.specs.Lines.{Walker, line_a, line_b, calls}
-use Rattle.folding.specs.Claims.{Demand1, StepClaim, RunClaim, Ended, Demand2, Agreement}
+use Rattle.folding.specs.Claims.{Demand1, StepClaim, RunClaim, Demand2, Agreement}
 use Rattle.folding.specs.Cards.{lone, loop, near_circle}
-use Rattle.folding.specs.Wrong.{EmitsNothing, idle, eager, hasty, jammed, inventor, SameListFor, constant, Refused, RefusesCalls, RefusesOpenings, refuser, WrongClaim}
+use Rattle.folding.specs.Wrong.{EmitsNothing, eager, hasty, jammed, inventor, SameListFor, constant, RefusesCalls, RefusesOpenings, WrongClaim}
 
 abbrev three : List ℕ
 three = replicate 3 0

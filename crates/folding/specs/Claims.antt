@@ -9,7 +9,7 @@ use Rattle.graphs.specs.Depth.{DepthFirst}
 use Rattle.graphs.specs.Results.{active_mark, blank_mark, marks_first, marks_left, marks_now, marks_rest}
 use Rattle.graphs.specs.Circles.{Circular, circular_of}
 use Rattle.graphs.specs.Image.{Image, SameLinks, graph_of}
-use Rattle.folding.specs.Machine.{Config, walking, restoring, finished, rolling_back, rolled_back, accepted, forward, mark_ahead, label_mark, unscanned, Stepped, can_step, step}
+use Rattle.folding.specs.Machine.{Config, walking, restoring, finished, rolling_back, rolled_back, forward, mark_ahead, label_mark, unscanned, Stepped, can_step, step}
 use Rattle.folding.specs.Calls.{Reason, ended, spent, stuck, Answer, ran, taken, refused, Reply, refusing, over, fields_in, Run, run, Call, run_for, single, area_of, number_of, perform, run_number, step_number, open_number, unopened, roll_back, roll_back_number, state_number, accept_number, opened_at, open_reply}
 use Rattle.folding.specs.Lines.{Walker, Line, line_a, line_b}
 

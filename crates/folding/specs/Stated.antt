@@ -1,6 +1,6 @@
 -- An opening and every call depend on the stated words of links and marks alone: lines in areas of their own, whatever these hold past n + m
 -- and m words, answer alike.
-use Rattle.std.specs.Prelude.{◌≡◌, Bool, List, [], ◌∷◌, ℕ, ◌+◌, ◌*◌, take}
+use Rattle.std.specs.Prelude.{◌≡◌, List, [], ◌∷◌, ℕ, ◌+◌, ◌*◌, take}
 use Rattle.graphs.specs.Image.{Image, SameLinks}
 use Rattle.graphs.specs.Refusals.{Lent, lent, short}
 use Rattle.folding.specs.Machine.{Config}

@@ -9,9 +9,9 @@ use native.Mathlib.Omega.{arith}
 use lib.ListN.{length}
 use lib.Dec.{eqb, leb}
 use borrow.Author.Tests.{le-leb, lt-leb, ne_eqb, eqb-false}
-use Rattle.lists.specs.Members.{Mem, here, there, memb, cons_if}
+use Rattle.lists.specs.Members.{Mem, memb, cons_if}
 use Rattle.lists.specs.Counts.{bump, rank}
-use Rattle.lists.specs.Words.{at, put, cleared, filled}
+use Rattle.lists.specs.Words.{at, put, filled}
 use Rattle.lists.proofs.Tests.{or-true, or-none, and_none, and-unit, zero_test, Compared, equal, other, compare}
 use Rattle.lists.proofs.Members.{memb-true, mem-memb, memb-of-not, memb-append}
 use Rattle.lists.proofs.Counts.{rank-test, rank-none, rank_most}

@@ -10,7 +10,7 @@ use lib.Dec.{eqb, ltb}
 use borrow.Author.Tests.{ltb-true, ltb-false, lt-ltb, le-ltb}
 use Rattle.lists.specs.Members.{Mem, here, there}
 use Rattle.lists.specs.Counts.{count_in, all_to}
-use Rattle.lists.specs.Words.{at, values_from}
+use Rattle.lists.specs.Words.{at}
 use Rattle.lists.proofs.Counts.{all_same}
 use Rattle.lists.proofs.Words.{at_take, values_same}
 use Rattle.graphs.specs.Nodes.{Vertex, Edge, is_vertex, is_link}
@@ -18,9 +18,9 @@ use Rattle.graphs.specs.Graph.{Reached}
 use Rattle.graphs.specs.Events.{History, labelled}
 use Rattle.graphs.specs.Search.{depth_first, breadth_first}
 use Rattle.graphs.specs.Image.{Image, stated, SameLinks, chain, looked_for, edges_of, to, graph_of, lists_to}
-use Rattle.graphs.specs.ArrayForm.{ArrayForm, array_of, numbers_of}
-use Rattle.graphs.specs.Refusals.{Refusal, refuse, first_of, Lent, lent, short, vertices_out, edges_out, vertex_out, after_out, tail_out, list_out, size_refusals, image_areas, image_refusals, blank_refusals, image_number, search_number}
-use Rattle.graphs.specs.Claims.{Alike, SameLinksClaim}
+use Rattle.graphs.specs.ArrayForm.{array_of, numbers_of}
+use Rattle.graphs.specs.Refusals.{Refusal, refuse, first_of, Lent, short, vertices_out, edges_out, vertex_out, after_out, tail_out, list_out, size_refusals, image_areas, image_refusals, blank_refusals, image_number, search_number}
+use Rattle.graphs.specs.Claims.{SameLinksClaim}
 use Rattle.graphs.proofs.Nodes.{link-not-null}
 use Rattle.graphs.proofs.Refusals.{all-false, checked-sound}
 use Rattle.graphs.proofs.Sound.{links-in, lists-edges, profile_sound, image-sound, graph-closed}

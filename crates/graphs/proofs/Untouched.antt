@@ -13,11 +13,11 @@ use Rattle.lists.specs.Counts.{bump, count_in}
 use Rattle.lists.proofs.Tests.{clash}
 use Rattle.lists.proofs.Members.{mem-nil, mem-cons, mem-right, mem-reverse, without-mem}
 use Rattle.graphs.specs.Graph.{Graph, Leads, stays, along}
-use Rattle.graphs.specs.Events.{Kind, event, label, advance_tree, advance_nontree, retreat_tree, retreat_nontree, scan, traverse, History, ◌▸◌, named, edges_by, same, known, labelled, scanned, traversed, count}
+use Rattle.graphs.specs.Events.{Kind, event, label, advance_tree, advance_nontree, retreat_tree, retreat_nontree, scan, traverse, History, ◌▸◌, named, edges_by, same, labelled, scanned, traversed, count}
 use Rattle.graphs.specs.Depth.{Searches, searches, Traverses, none, tree, nontree}
 use Rattle.graphs.specs.Breadth as breadth
 use Rattle.graphs.specs.Search.{depth_first, breadth_first}
-use Rattle.graphs.specs.Claims.{Ready, Unnamed, Untouched, UntouchedClaim}
+use Rattle.graphs.specs.Claims.{Unnamed, UntouchedClaim}
 use Rattle.graphs.proofs.Depth.{depth-relates, depth-first}
 use Rattle.graphs.proofs.Breadth.{breadth-first}
 use Rattle.graphs.proofs.Trees.{AllTrees, parent-none, increment-none}

@@ -1,7 +1,6 @@
 -- The number of digits by the formula.
 -- The loop keeps: the part left is shorter than x by the divisions made, which are k - 1; and k is no more than x + 1, so that it fits. The
 -- measure is that part.
-use Prim.Native.Nat.{◌+◌}
 use native.Mathlib.Omega.{arith}
 use Rattle.numbers.proofs.Numbers.{length-claim}
 use Rattle.numbers.proofs.decimal_length.Goals as goal

@@ -10,7 +10,7 @@ use Rattle.folded.proofs.back.relink.Goals as goal
 
 -- src/back.rt:29:8
 pub overflow_cast-w : goal.overflow_cast-w
-overflow_cast-w c = omega (arith, c.slice_known-2-1.given (c.args.s.f - 1))
+overflow_cast-w c = omega (arith, c.type_inv.after (c.args.s.f - 1))
 
 -- src/back.rt:30:9
 pub returns-then-w-s : goal.returns-then-w-s

@@ -25,7 +25,7 @@ bounds-tail-j c = let z = c.args in let x = edge-is z.s.n z.s.m c.read_after-r.r
 
 -- src/back.rt:59:8
 pub overflow_cast-tail : goal.overflow_cast-tail
-overflow_cast-tail c = let z = c.args in omega (arith, c.shared_slice_known-3-1.given (c.read_after-r.result - z.s.n - 1))
+overflow_cast-tail c = let z = c.args in omega (arith, c.type_inv.tail (c.read_after-r.result - z.s.n - 1))
 
 -- src/back.rt:60:9
 pub returns-then-tail-j : goal.returns-then-tail-j
