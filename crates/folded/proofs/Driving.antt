@@ -19,7 +19,7 @@ use Rattle.graphs.proofs.Room.{words-length}
 use Rattle.graphs.specs.Refusals.{refuse, first_of, Lent, lent, short}
 use Rattle.walks.proofs.Numbers.{more-lent, own-test}
 use Rattle.walks.proofs.Events.{words_append}
-use Rattle.folding.specs.Machine.{Config, step_of, fits, can_step, step}
+use Rattle.folding.specs.Machine.{Config, step_of, can_step, step}
 use Rattle.folding.specs.Calls.{ended, spent, stuck, ran, taken, refusing, over, state_number, work_areas, run_number, step_refusals, step_number, Run, stop, onward, run, run_for, single, perform, serve}
 use Rattle.folding.proofs.Fields.{Fields}
 use Rattle.folding.proofs.Passed.{passed, lengths}

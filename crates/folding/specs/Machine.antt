@@ -49,7 +49,7 @@ abbrev pub target : Config → ℕ → ℕ
 target w r = at w.n w.tail r
 
 -- The steps. Document 01's moves: Tree; Nontree; Turn is relink; Close is retreat, or finish where f is 0; Close while winding
--- is undo-tree, or undo-open where f is 0.
+-- is undo_tree, or undo_open where f is 0.
 pub data Step : Type 0 where
   tree nontree relink retreat finish undo_tree undo_open : Step
 

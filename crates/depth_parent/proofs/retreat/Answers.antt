@@ -35,5 +35,6 @@ bounds-after-k c = let z = c.requires in let b = place-bounds z.0.is in let e = 
 
 pub returns : goal.returns
 returns c = let z = c.requires in record {
-      at = λ before marks₀ parents₀ events₀ A. retreat-at A z.1 z.2 (c.emit-a.ensures.tally, c.emit-a.ensures.events) c.if-f-ne0.u (c.emit-b.ensures.tally, c.emit-b.ensures.events) (elim c.if-f-ne0.branch [ then-f-ne0 w ↦ w.u-is ∙ back_target A z.1 z.2 w.if-f-ne0.true | else-f-ne0 w ↦ w.u-is ∙ back_start A z.1 z.2 w.if-f-ne0.false ]);
-      words = retreat-total z.0.is z.1 z.2 (c.emit-a.ensures.tally, c.emit-a.ensures.events) c.if-f-ne0.u (c.emit-b.ensures.tally, c.emit-b.ensures.events) (elim c.if-f-ne0.branch [ then-f-ne0 w ↦ w.u-is ∙ back_target z.0.is z.1 z.2 w.if-f-ne0.true | else-f-ne0 w ↦ w.u-is ∙ back_start z.0.is z.1 z.2 w.if-f-ne0.false ]) }
+  at = λ before marks₀ parents₀ events₀ A. retreat-at A z.1 z.2 (c.emit-a.ensures.tally, c.emit-a.ensures.events) c.if-f-ne0.u (c.emit-b.ensures.tally, c.emit-b.ensures.events) (elim c.if-f-ne0.branch [ then-f-ne0 w ↦ w.u-is ∙ back_target A z.1 z.2 w.if-f-ne0.true | else-f-ne0 w ↦ w.u-is ∙ back_start A z.1 z.2 w.if-f-ne0.false ]);
+  words = retreat-total z.0.is z.1 z.2 (c.emit-a.ensures.tally, c.emit-a.ensures.events) c.if-f-ne0.u (c.emit-b.ensures.tally, c.emit-b.ensures.events) (elim c.if-f-ne0.branch [ then-f-ne0 w ↦ w.u-is ∙ back_target z.0.is z.1 z.2 w.if-f-ne0.true | else-f-ne0 w ↦ w.u-is ∙ back_start z.0.is z.1 z.2 w.if-f-ne0.false ]);
+}

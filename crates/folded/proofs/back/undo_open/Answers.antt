@@ -1,4 +1,3 @@
-
 use mathlib.Core.Path.{◌∙◌}
 use Rattle.states.specs.Answers.{config_of}
 use Rattle.folded.proofs.Backs.{undo-open-out, undo-open-made}

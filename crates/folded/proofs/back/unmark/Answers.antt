@@ -1,4 +1,3 @@
-
 use mathlib.Core.Path.{refl}
 use Rattle.lists.specs.Words.{at, put}
 use Rattle.folded.proofs.back.unmark.Goals as goal

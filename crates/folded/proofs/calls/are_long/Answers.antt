@@ -1,4 +1,3 @@
-
 use borrow.Author.Tests.{lt-leb, le-leb}
 use Rattle.folded.proofs.calls.are_long.Goals as goal
 

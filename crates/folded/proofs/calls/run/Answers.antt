@@ -1,4 +1,3 @@
-
 use mathlib.Core.Path.{sym, ap, ◌∙◌}
 use Prim.Native.Nat.{◌*◌}
 use Rattle.states.specs.Answers.{seen_of, config_of}

@@ -1,4 +1,3 @@
-
 use mathlib.Core.Path.{sym, ap, ◌∙◌}
 use Rattle.states.specs.Answers.{seen_of}
 use Rattle.folded.proofs.Driving.{work-number, not-refused, step-refused, step-over, step-stuck, step-taken}

@@ -1,4 +1,3 @@
-
 use lib.ListN.{get_or}
 use Prim.Native.Nat.{◌-◌}
 use Rattle.graphs.specs.Nodes.{Vertex}

@@ -1,4 +1,3 @@
-
 use mathlib.Core.Path.{sym, ◌∙◌}
 use Rattle.states.specs.Answers.{config_of}
 use Rattle.folded.proofs.Forwards.{tree-full, tree-no-link, tree-made}

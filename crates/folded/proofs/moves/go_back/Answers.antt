@@ -1,4 +1,3 @@
-
 use native.Mathlib.Omega.{arith}
 use Rattle.states.specs.Answers.{config_of}
 use Rattle.folded.proofs.Picked.{but-marks, coming, picks-relink, picks-undo-open, picks-undo-tree, picks-finish, picks-retreat}

@@ -1,4 +1,3 @@
-
 use Rattle.states.specs.Answers.{config_of}
 use Rattle.folded.proofs.Picked.{coming, goes-forward, not-walking, none-next, picks-onward}
 use Rattle.folded.proofs.moves.make.Goals as goal

@@ -1,4 +1,3 @@
-
 use Rattle.folded.proofs.Stores.{read-own, read-other}
 use Rattle.folded.proofs.tried.read_after.Goals as goal
 

@@ -1,4 +1,3 @@
-
 use Rattle.folded.proofs.Stores.{six-pasted}
 use Rattle.folded.proofs.tried.write_two.Goals as goal
 

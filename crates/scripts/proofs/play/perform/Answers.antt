@@ -1,4 +1,3 @@
-
 use native.Mathlib.Omega.{arith}
 use Rattle.scripts.proofs.Played.{from_low, few, run_more, step-more, order-more, none_more}
 use Rattle.std.proofs.Common.{rules}

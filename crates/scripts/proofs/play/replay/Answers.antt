@@ -1,4 +1,3 @@
-
 use native.Mathlib.Omega.{arith}
 use Rattle.images.specs.Checking.{image}
 use Rattle.scripts.proofs.Played.{so_far, none_made, playing, next-played, last-played}

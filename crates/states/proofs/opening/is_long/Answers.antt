@@ -1,4 +1,3 @@
-
 use borrow.Author.Tests.{lt-leb, le-leb}
 use Rattle.states.proofs.opening.is_long.Goals as goal
 

@@ -1,4 +1,3 @@
-
 use mathlib.Core.Path.{sym, ◌∙◌}
 use Rattle.walks.proofs.refusals.list_number.Goals as goal
 

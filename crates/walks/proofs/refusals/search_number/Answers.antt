@@ -1,4 +1,3 @@
-
 use mathlib.Core.Path.{sym, ◌∙◌, ap}
 use borrow.Author.Tests.{lt-ltb, le-ltb}
 use mathlib.Core.Bool.{not}
