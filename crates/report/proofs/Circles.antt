@@ -10,11 +10,10 @@ use Rattle.lists.specs.Words.{overlay}
 use Rattle.graphs.specs.Claims.{Ready}
 use Rattle.graphs.specs.Circles.{circular_of}
 use Rattle.graphs.proofs.Circles.{circular}
-use Rattle.texts.specs.Text.{Listing, listing_of}
-use Rattle.texts.specs.Loading.{Reading}
+use Rattle.texts.specs.Text.{Listing}
 use Rattle.report.specs.Printed.{walk_printed}
-use Rattle.report.specs.Report.{graph_from, walk_from, lent_areas, walk_reading, reported, report_of}
-use Rattle.report.specs.Claims.{printed, PrintsFigure, PrintedFigureClaim}
+use Rattle.report.specs.Report.{graph_from, walk_from, lent_areas, walk_reading, report_of}
+use Rattle.report.specs.Claims.{PrintsFigure, PrintedFigureClaim}
 use Rattle.report.proofs.Judged.{long-areas, reading-long}
 use Rattle.report.proofs.Graphs.{search-ready}
 use Rattle.report.proofs.Padding.{taken, number-told}

@@ -1,12 +1,11 @@
 -- What a call on a state in words hands back, and what accepting one does.
 -- Fewer than nine words hold no state; else all is what is seen of the reply.
 use mathlib.Core.Path.{◌≡◌, refl, sym, ap, ◌∙◌}
-use mathlib.Core.Logic.{◌≢◌, ◌⊎◌, inl, inr}
+use mathlib.Core.Logic.{◌≢◌}
 use mathlib.Core.List.{List, []}
 use Prim.Native.Nat.{ℕ, zero, suc, ◌≤◌, ◌<◌}
 use lib.ListN.{length}
-use borrow.Author.Tests.{le-leb, lt-leb, eqb-false}
-use denote.Enum.Declared.{tag_of}
+use borrow.Author.Tests.{le-leb, lt-leb}
 use Rattle.lists.specs.Words.{overlay}
 use Rattle.folding.specs.Calls as calls
 use Rattle.folding.specs.Calls.{Call, ran, taken, refused, refusing, area_of, serve, accept_number}
@@ -14,7 +13,6 @@ use Rattle.states.specs.declared.values.State.{State}
 use Rattle.states.specs.declared.values.Answer.{Answer}
 use Rattle.states.specs.declared.values.Answer.TheVariants as answer
 use Rattle.states.specs.Answers.{answer_of, config_of, Seen, seen_of}
-use Rattle.states.specs.contracts.values.Answer.{the_type}
 use Rattle.panel.specs.declared.Panel.{Panel}
 use Rattle.panel.specs.declared.Counted.{Counted}
 use Rattle.panel.specs.Panel.{counted_by, accepted_of}

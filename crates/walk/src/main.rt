@@ -1,6 +1,7 @@
 // `walk`: reads a profile's text from standard input and prints its folded depth-first walk, or `refused,` and the number of a text that is
 // refused. What is printed is what `report::walk_text` and `report::refusal_line` promise; here it is only read and written.
 #![tactic(auto)]
+
 ghost use Rattle.std.specs.Prelude.{◌≤◌, length, IfOk};
 
 use std::io;

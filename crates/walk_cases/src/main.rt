@@ -42,7 +42,14 @@ fn run(d: &mut Desk, walker: u16, group: u16, top: u16) {
 }
 
 // Runs the first `top` cases of a group and prints what they gave.
-fn print(rt: &impl Print, name: &[u8], of: &[u8], walker: u16, group: u16, top: u16) -> io::Result<()> {
+fn print(
+    rt: &impl Print,
+    name: &[u8],
+    of: &[u8],
+    walker: u16,
+    group: u16,
+    top: u16,
+) -> io::Result<()> {
     let mut d = [0u16; 102000];
     run(&mut d, walker, group, top);
     print_counts(rt, name, of, &d)

@@ -5,17 +5,14 @@ use mathlib.Core.List.{List, [], ◌∷◌, ◌++◌, reverse, reverse-reverse, 
 use Prim.Native.Nat.{ℕ, zero, suc, ◌+◌, ◌*◌}
 use native.Mathlib.Omega.{arith}
 use lib.Dec.{eqb}
-use lib.ListN.{length, take, drop, length-reverse}
+use lib.ListN.{length, take, drop}
 use lib.Seq.{take_at}
-use Rattle.lists.specs.Counts.{sum_of}
 use Rattle.lists.specs.Words.{overlay}
 use Rattle.graphs.specs.Events.{Event, words, History}
 use Rattle.graphs.specs.Results.{marks_left}
 use Rattle.graphs.specs.Image.{Image, graph_of}
 use Rattle.graphs.proofs.Depth.{depth-first}
-use Rattle.graphs.proofs.Results.{tally-sums}
 use Rattle.graphs.proofs.Room.{words-length, profile-ready}
-use Rattle.walks.specs.Promises.{depth_walk}
 use Rattle.walks.proofs.Events.{words_append}
 use Rattle.folding.specs.Calls.{taken, refused, Reply, unless, Call, area_of, serve, unopened, opening, open_reply, open_number}
 use Rattle.folding.specs.Lines.{Line, line_a, line_b, folded, noted, calls, begun}

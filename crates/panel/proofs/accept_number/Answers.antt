@@ -1,4 +1,3 @@
-
 use mathlib.Core.List.{[]}
 use mathlib.Core.Path.{refl}
 use Rattle.states.specs.Answers.{config_of}
