@@ -2,7 +2,8 @@
 // refused. What is printed is what `report::walk_text` and `report::refusal_line` promise; here it is only read and written.
 #![tactic(auto)]
 
-ghost use Rattle.std.specs.Prelude.{◌≤◌, length, IfOk};
+ghost use Rattle.std.specs.Prelude.{◌≤◌, ◌<◌, length, take, IfOk};
+ghost use Rattle.std.specs.Io.KnownBytes.{Consumes, IsAtEnd};
 
 use std::io;
 use std::io::Read;
@@ -35,9 +36,11 @@ fn print_walk(rt: &impl Print, text: &[u8]) -> io::Result<()> {
     rt.write_all(&output[..r.bytes])
 }
 
-// Reads until the area is full or the input ends, and returns how many bytes were read.
-fn read_full(input: &mut impl Read, text: &mut [u8]) -> io::Result<usize>
+// Reads until the area is full or the input ends, and returns how many bytes were read: they stand at the area's start.
+fn read_full<R: Read>(input: &mut R, text: &mut [u8]) -> io::Result<usize>
     ensures within { IfOk result (λ n. n ≤ length text.new) }
+    ensures bytes { IfOk result (λ n. Consumes (R.remaining input.old) (R.remaining input.new) (take n text.new)) }
+    ensures ended { IfOk result (λ n. n < length text.new → IsAtEnd (R.remaining input.new)) }
 {
     let mut read: usize = 0;
     while read < text.len() {
