@@ -18,7 +18,7 @@ pub extern "C" fn profile_walker_accept(state: &mut [u16], figure: &mut u32) -> 
 // `state_words::shift_start_in_words`.
 #[unsafe(no_mangle)]
 pub extern "C" fn profile_walker_shift_start(figure: &mut u32)
-    ensures { figure.exit.now ≡ (shifted_of (record { figure = figure.entry.now })).figure }
+    ensures { figure.new ≡ (shifted_of (record { figure = figure.old })).figure }
 {
     state_words::shift_start_in_words(figure);
 }

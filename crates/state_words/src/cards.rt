@@ -33,7 +33,7 @@ pub fn accept_in_words(state: &mut [u16], figure: &mut u32) -> u16
 
 // `panel::shift_start`.
 pub fn shift_start_in_words(figure: &mut u32)
-    ensures { figure.exit.now ≡ (shifted_of (record { figure = figure.entry.now })).figure }
+    ensures { figure.new ≡ (shifted_of (record { figure = figure.old })).figure }
 {
     let p = Panel { figure: *figure };
     let q = shifted(p);
