@@ -11,7 +11,7 @@ use lib.Dec.{ltb}
 use borrow.Author.Tests.{eqb-false, ltb-false}
 use Rattle.lists.proofs.Tests.{clash, neither}
 use Rattle.graphs.specs.Nodes.{is_vertex}
-use Rattle.graphs.specs.Refusals.{Refusal, refuse, first_of, unless_refused, vertices_out, edges_out, vertex_out, after_out, tail_out, list_out, blanks_out, start_blank, Lent, lent, short, image_areas, sound, image_number, search_number}
+use Rattle.graphs.specs.Refusals.{Refusal, refuse, first_of, unless_refused, sizes_out, vertices_out, edges_out, vertex_out, after_out, tail_out, list_out, blanks_out, start_blank, Lent, lent, short, image_areas, sound, image_number, search_number}
 use Rattle.graphs.specs.Claims.{SoundClaim, CheckedClaim}
 
 -- A refused call leaves the old words.
@@ -31,6 +31,31 @@ AllFalse (refuse k b ∷ cs) = (b ≡ false) × AllFalse cs
 passes : (k : ℕ) (b : Bool) (cs : List Refusal) → 0 < k → first_of (refuse k b ∷ cs) ≡ 0 → (b ≡ false) × (first_of cs ≡ 0)
 passes k true cs h e = absurd (let z : k ≡ 0 = e in omega arith)
 passes k false cs h e = (refl, e)
+
+pub sizes-numbered : (n m : ℕ) → Numbered (sizes_out n m)
+sizes-numbered n m = (omega arith, (omega arith, tt))
+
+-- The first condition of a call: it is true, or the others decide.
+pub first-true : {k : ℕ} {b : Bool} (cs : List Refusal) → b ≡ true → k ≡ first_of (refuse k b ∷ cs)
+first-true cs e = rw e refl
+
+pub first-false : (k : ℕ) {b : Bool} (cs : List Refusal) → b ≡ false → first_of cs ≡ first_of (refuse k b ∷ cs)
+first-false k cs e = rw e refl
+
+-- Areas that are not as long as stated, and areas that are.
+pub tested-short : {long out : Bool} → long ≡ not out → long ≡ false → out ≡ true
+tested-short {out = true} e h = refl
+tested-short {out = false} e h = clash (sym e ∙ h)
+
+pub tested-long : {long out : Bool} → long ≡ not out → long ≡ true → out ≡ false
+tested-long {out = true} e h = clash (sym h ∙ e)
+tested-long {out = false} e h = refl
+
+-- A call that is refused by its first conditions.
+pub first-refused : (cs own : List Refusal) {j : ℕ} → j ≡ first_of cs → (j ≡ 0 → ⊥) → j ≡ first_of (cs ++ own)
+first-refused [] own e h = absurd (h e)
+first-refused (refuse k true ∷ cs) own e h = e
+first-refused (refuse k false ∷ cs) own e h = first-refused cs own e h
 
 -- A call that is not refused by its first conditions nor by its own.
 pub all-false : (cs own : List Refusal) → Numbered cs → first_of (cs ++ own) ≡ 0 → AllFalse cs × (first_of own ≡ 0)

@@ -80,6 +80,10 @@ abbrev pub start_blank : ℕ → List ℕ → Bool
 start_blank start before = memb start before
 
 -- ---- the order of each call
+-- The conditions that ask only the sizes.
+abbrev pub sizes_out : ℕ → ℕ → List Refusal
+sizes_out n m = refuse 1 (vertices_out n) ∷ refuse 2 (edges_out m) ∷ []
+
 -- What every call with an image or a state meets first.
 abbrev pub size_refusals : ℕ → ℕ → List Lent → List Refusal
 size_refusals n m areas = refuse 1 (vertices_out n) ∷ refuse 2 (edges_out m) ∷ refuse 3 (short areas) ∷ []

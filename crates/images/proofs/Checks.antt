@@ -8,7 +8,10 @@ use Prim.Native.Nat.{ℕ, zero, suc, ◌+◌, ◌-◌, ◌≤◌, ◌<◌}
 use native.Mathlib.Omega.{arith}
 use native.Mathlib.Numerals.{add-one}
 use lib.Dec.{eqb}
-use lib.ListN.{length, get_or, set, length-replicate, get_or-replicate, get_or-eq_default}
+use Rattle.std.specs.Prelude.{Some, None}
+use Rattle.std.proofs.lemmas.Option.{none-some, cond_some}
+use Rattle.std.proofs.lemmas.List.{length-take, get_or-take}
+use lib.ListN.{length, take, get_or, set, length-replicate, get_or-replicate, get_or-eq_default}
 use borrow.Author.Tests.{eqb-true, eq-eqb, ne_eqb}
 use Rattle.lists.specs.Members.{Mem, here, there, NoDup}
 use Rattle.lists.specs.Counts.{all_to}
@@ -22,7 +25,7 @@ use Rattle.graphs.specs.Image.{Image, chain, edges_of, lists_to}
 use Rattle.graphs.specs.Refusals.{after_out, list_out}
 use Rattle.graphs.proofs.Nodes.{link-not-null}
 use Rattle.graphs.proofs.Sound.{links-in, lists-edges, counted}
-use Rattle.images.specs.Checking.{image, list_from, Sized, Chained, Flagging, flag_all, no_flags, Follows}
+use Rattle.images.specs.Checking.{image, list_from, Sized, Chained, Flagging, flag_all, flagged, no_flags, Follows}
 
 -- ---- a test of each word of an area
 -- `out` says whether one of the first i words, of k, fails the test.
@@ -57,12 +60,35 @@ module _ {test : ℕ → Bool} {area : List ℕ} {k i : ℕ} {out : Bool} (t : T
         so = rw (add-one i) ((λ j. t.so j || not (next j)) ∙ sym (not-and all (test (at 0 area (suc i)))));
       }
 
+-- The first k words of an area that is as long are tested one by one.
+module _ {test : ℕ → Bool} {area : List ℕ} {k i j : ℕ} {out : Bool} (t : Tested test area k i out) (same : j ≡ k) (long : k ≤ length area) where
+  pub tested-next : i < length (take j area) → {b : Bool} → b ≡ test (get_or (take j area) i 0) → Tested test area k (i + 1) (out || not b)
+  tested-next lt e =
+      let below : i < j = omega (arith, length-take j area) in
+      tested-more t (omega arith) (e ∙ ap test (get_or-take j area i 0 below))
+
+  pub tested-all : length (take j area) ≤ i → out ≡ not (all_to (λ x. test (at 0 area x)) k)
+  tested-all q = tested-end t (omega (arith, length-take j area))
+
 -- ---- edges flagged one after the other
 abbrev pub all_new : ℕ → List ℕ → Flagging
 all_new count flags = record { new = true; count = count; flags = flags }
 
 abbrev pub met_again : ℕ → List ℕ → Flagging
 met_again count flags = record { new = false; count = count; flags = flags }
+
+-- What the number of edges flagged says of whether all were new.
+pub flagged-some : (f : Flagging) (k : ℕ) → Some k ≡ flagged f → f ≡ all_new k f.flags
+flagged-some f k e =
+    let (new, count) = cond_some f.new f.count k (sym e) in
+    λ i. record { new = new i; count = count i; flags = f.flags }
+
+pub flagged-none : (f : Flagging) → None ≡ flagged f → f.new ≡ false
+flagged-none f e = go f.new e
+  where
+    go : (b : Bool) → None ≡ cond b (Some f.count) None → b ≡ false
+    go true q = absurd (none-some f.count q)
+    go false q = refl
 
 module _ (n : ℕ) where
   flag-length : (flags : List ℕ) (count : ℕ) (l : List ℕ) → length (flag_all n flags count l).flags ≡ length flags
@@ -263,30 +289,38 @@ module _ {n m : ℕ} {after : List ℕ} (L : Chained n m after) where
   edges-here tail i = ap (list_from m after) (word-here after i)
 
   module _ {flags : List ℕ} {count i : ℕ} (lt : i < n) (met : Met n m after flags count i) where
-    pub can-follow : Follows n m (get_or after i 0) after flags count
+    -- What was read of the first n words.
+    first-read : get_or (take n after) i 0 ≡ get_or after i 0
+    first-read = get_or-take n after i 0 lt
+
+    pub can-follow : Follows n m (get_or (take n after) i 0) after flags count
     can-follow =
-        record {
+        rw first-read
+        (record {
           chained = L;
           first_link = subst (λ (r : ℕ). is_link n m r ≡ true) (word-here after i) (links-in (image n m after []) (L.links []) (suc i) (omega arith) (omega arith));
           done = lists_to (image n m after []) i;
           edges = lists-edges (image n m after []) (L.links []) i (omega arith);
           flagged = met [];
-        }
+        })
 
     -- What following the next list gives.
-    module _ {f : Flagging} (e : flag_all n flags count (list_from m after (get_or after i 0)) ≡ f) where
+    module _ {f : Flagging} (e : flag_all n flags count (list_from m after (get_or (take n after) i 0)) ≡ f) where
       next-list : (tail : List ℕ) → flag_all n flags count (edges_of (image n m after tail) (suc i)) ≡ f
-      next-list tail = ap (flag_all n flags count) (edges-here tail i) ∙ e
+      next-list tail = ap (flag_all n flags count) (edges-here tail i ∙ ap (list_from m after) (sym first-read)) ∙ e
 
-      pub met-again : f.new ≡ false → (tail : List ℕ) → list_out (image n m after tail) ≡ true
-      met-again h tail = list-again (image n m after tail) (L.links tail) L.sized.few_edges i lt (met tail) (ap (λ (x : Flagging). x.new) (next-list tail) ∙ h)
+    -- What following the next list says: an edge was met again, or how many edges are flagged now.
+    module _ (f : Flagging) (e : flag_all n flags count (list_from m after (get_or (take n after) i 0)) ≡ f) where
+      pub met-again : None ≡ flagged f → (tail : List ℕ) → list_out (image n m after tail) ≡ true
+      met-again h tail = list-again (image n m after tail) (L.links tail) L.sized.few_edges i lt (met tail) (ap (λ (x : Flagging). x.new) (next-list e tail) ∙ flagged-none f h)
 
-      pub met-more : f.new ≡ true → Met n m after f.flags f.count (i + 1)
-      met-more h tail =
+      pub met-more : {k : ℕ} {flags' : List ℕ} → Some k ≡ flagged f → flags' ≡ f.flags → Met n m after flags' k (i + 1)
+      met-more {k} {flags'} h same tail =
           rw (add-one i)
           (flag-append n no_flags 0 (lists_to (image n m after tail) i) (edges_of (image n m after tail) (suc i)) (met tail)
-          ∙ next-list tail
-          ∙ (λ j. record { new = h j; count = f.count; flags = f.flags }))
+          ∙ next-list e tail
+          ∙ flagged-some f k h
+          ∙ ap (all_new k) (sym same))
 
   pub met_all : {flags : List ℕ} {count i : ℕ} → Met n m after flags count i → i ≡ n → (tail : List ℕ) → not (eqb count m) ≡ list_out (image n m after tail)
   met_all {flags} {count} met e tail = lists-new (image n m after tail) (L.links tail) L.sized.few_edges (subst (λ (k : ℕ). flag_all n no_flags 0 (lists_to (image n m after tail) k) ≡ all_new count flags) e (met tail))

@@ -1,14 +1,19 @@
 -- How the checker of images looks for condition 7: it flags the edges of all lists, one after the other.
-use Rattle.std.specs.Prelude.{◌≡◌, Bool, true, false, cond, List, [], ◌∷◌, ℕ, suc, ◌+◌, ◌≤◌, eqb, length, replicate}
+use Rattle.std.specs.Prelude.{◌≡◌, Bool, true, false, cond, List, [], ◌∷◌, ℕ, suc, ◌+◌, ◌≤◌, eqb, length, replicate, Option, Some, None}
 use Rattle.lists.specs.Members.{Mem}
 use Rattle.lists.specs.Words.{at, put}
 use Rattle.graphs.specs.Nodes.{Edge, is_link}
 use Rattle.graphs.specs.Image.{Image, chain}
 use Rattle.graphs.specs.Refusals.{after_out}
+use Rattle.images.specs.declared.image.Image as code
 
 -- The image in two areas.
 abbrev pub image : (n m : ℕ) (after tail : List ℕ) → Image
 image n m after tail = record { n = n; m = m; after = after; tail = tail }
+
+-- The image that a call is lent.
+abbrev pub image_of : code.Image → Image
+image_of g = image g.n g.m g.after.now g.tail.now
 
 -- Sizes within the limits, and an after area as long as stated.
 pub record Sized (n m : ℕ) (after : List ℕ) : Type 0 where
@@ -35,6 +40,10 @@ pub record Flagging : Type 0 where
 abbrev pub flag_all : ℕ → List ℕ → ℕ → List ℕ → Flagging
 flag_all n flags count [] = record { new = true; count = count; flags = flags }
 flag_all n flags count (r ∷ rs) = cond (eqb (at n flags r) 0) (flag_all n (put n flags r 1) (suc count) rs) (record { new = false; count = count; flags = flags })
+
+-- How many edges are flagged, where each of them was new.
+abbrev pub flagged : Flagging → Option ℕ
+flagged f = cond f.new (Some f.count) None
 
 -- No edge is flagged yet.
 abbrev pub no_flags : List ℕ

@@ -1,24 +1,24 @@
 // The checker of linked images.
 ghost use Rattle.std.specs.Prelude.{◌≡◌, List, [], ℕ};
 ghost use Rattle.graphs.specs.Refusals.{after_out, tail_out, list_out, image_number, first_of, image_refusals};
-ghost use Rattle.images.specs.Checking.{image, list_from, Sized, Chained, flag_all, Follows};
+ghost use Rattle.refusals.specs.Numbers.{number_in};
+ghost use Rattle.images.specs.Checking.{image, image_of, list_from, Sized, Chained, flag_all, flagged, Follows};
 
+use crate::image::Image;
 use crate::nodes::{Edge, Vertex, is_link, is_vertex};
+use crate::sizes::check_sizes;
+use refusals::Refusal;
 
 // Whether an after word is neither 0 nor an edge (5). Every word is tested, also behind one that is out: a loop without a way out is
 // compiled to take several words at a time.
-fn after_out(n: u16, m: u16, after: &[u16]) -> bool
-    requires { Sized n m after.now }
-    ensures { (tail : List ℕ) → result ≡ after_out (image n m after.now tail) }
+fn after_out(g: &Image) -> bool
+    requires { Sized g.now.n g.now.m g.now.after.now }
+    ensures { (tail : List ℕ) → result ≡ after_out (image g.now.n g.now.m g.now.after.now tail) }
 {
-    let top = n as usize + m as usize;
     let mut out = false;
-    let mut i: usize = 0;
-    while i < top {
-        let e = Edge(after[i]);
-        let link = is_link(n, m, e);
-        out = out | !link;
-        i += 1;
+    for word in &g.after[..g.nodes()] {
+        let link = is_link(g.n, g.m, Edge(*word));
+        out |= !link;
     }
     out
 }
@@ -32,109 +32,76 @@ pub fn tail_out(n: u16, m: u16, tail: &[u16]) -> bool
         return true;
     }
     let mut out = false;
-    let mut i: usize = 0;
-    while i < top {
-        let v = Vertex(tail[i]);
-        let vertex = is_vertex(n, v);
-        out = out | !vertex;
-        i += 1;
+    for word in &tail[..top] {
+        let vertex = is_vertex(n, Vertex(*word));
+        out |= !vertex;
     }
     out
 }
 
-// Whether each edge of a list was new, and how many edges are flagged now.
-#[derive(Clone, Copy)]
-pub(crate) struct Flagged {
-    pub new: bool,
-    pub count: u16,
-}
-
-// Follows the list that begins with first, and flags each edge, up to the first that has its flag already. A list that comes back
-// to itself ends there. The next edge is read before the flag is set, since the next turn waits for it.
-fn flag_list(n: u16, m: u16, first: u16, after: &[u16], flags: &mut [u8], count: u16) -> Flagged
-    requires { Follows n m first after.now flags.old count }
-    ensures { flag_all n flags.old count (list_from m after.now first) ≡ record { new = result.new; count = result.count; flags = flags.new } }
+// Follows the list that begins with first, and flags each edge; how many edges are flagged then, or none where one had its flag already.
+// A list that comes back to itself ends there. The next edge is read before the flag is set, since the next turn waits for it.
+fn flag_list(g: &Image, first: u16, flags: &mut [u8], count: u16) -> Option<u16>
+    requires { Follows g.now.n g.now.m first g.now.after.now flags.old count }
+    ensures count { result ≡ flagged (flag_all g.now.n flags.old count (list_from g.now.m g.now.after.now first)) }
+    ensures flags { flags.new ≡ (flag_all g.now.n flags.old count (list_from g.now.m g.now.after.now first)).flags }
 {
     let mut r = first;
     let mut c = count;
     while r != 0 {
-        let j = r as usize - 1;
-        let next = after[j];
-        let k = r as usize - n as usize - 1;
+        let next = g.after[r as usize - 1];
+        let k = (r - g.n) as usize - 1;
         if flags[k] != 0 {
-            return Flagged {
-                new: false,
-                count: c,
-            };
+            return None;
         }
         flags[k] = 1;
         c += 1;
         r = next;
     }
-    Flagged {
-        new: true,
-        count: c,
-    }
+    Some(c)
 }
 
 // Whether an edge is not on exactly one list, once (7).
-fn list_out(n: u16, m: u16, after: &[u16]) -> bool
-    requires { Chained n m after.now }
-    ensures { (tail : List ℕ) → result ≡ list_out (image n m after.now tail) }
+fn list_out(g: &Image) -> bool
+    requires { Chained g.now.n g.now.m g.now.after.now }
+    ensures { (tail : List ℕ) → result ≡ list_out (image g.now.n g.now.m g.now.after.now tail) }
 {
     let mut flags = [0u8; 4000];
-    let top = n as usize;
     let mut count: u16 = 0;
-    let mut i: usize = 0;
-    while i < top {
-        let first = after[i];
-        let f = flag_list(n, m, first, after, &mut flags, count);
-        let new = f.new;
-        if !new {
+    for first in &g.after[..g.n as usize] {
+        let Some(all) = flag_list(g, *first, &mut flags, count) else {
             return true;
-        }
-        count = f.count;
-        i += 1;
+        };
+        count = all;
     }
     // No edge was met twice; where all m were met, each stands on one list, once.
-    count != m
+    count != g.m
 }
 
-// The number of the first of 5, 6 and 7 that is true of the words of an image, or 0.
-fn words_number(n: u16, m: u16, after: &[u16], tail: &[u16]) -> u16
-    requires { Sized n m after.now }
-    ensures { result ≡ first_of (image_refusals (image n m after.now tail.now)) }
+// Refused by the first of 5, 6 and 7 that is true of the words of an image.
+fn check_words(g: &Image) -> Result<(), Refusal>
+    requires { Sized g.now.n g.now.m g.now.after.now }
+    ensures { number_in result ≡ first_of (image_refusals (image_of g.now)) }
 {
-    if after_out(n, m, after) {
-        return 5;
+    if after_out(g) {
+        return Err(Refusal::Link);
     }
-    if tail_out(n, m, tail) {
-        return 6;
+    if tail_out(g.n, g.m, g.tail) {
+        return Err(Refusal::Tail);
     }
-    if list_out(n, m, after) {
-        return 7;
+    if list_out(g) {
+        return Err(Refusal::List);
     }
-    0
+    Ok(())
 }
 
-// The number of the first of 1, 2, 3, 5, 6 and 7 that is true of an image, or 0. It ends on any words, in time linear in n + m.
-pub fn check_image(n: u16, m: u16, after: &[u16], tail: &[u16]) -> u16
-    ensures { result ≡ image_number (image n m after.now tail.now) [] }
+// Refused by the first of 1, 2, 3, 5, 6 and 7 that is true of an image. It ends on any words, in time linear in n + m.
+pub fn check_image(g: &Image) -> Result<(), Refusal>
+    ensures { number_in result ≡ image_number (image_of g.now) [] }
 {
-    if n == 0 {
-        return 1;
+    check_sizes(g.n, g.m)?;
+    if !g.is_long() {
+        return Err(Refusal::Area);
     }
-    if n > 1000 {
-        return 1;
-    }
-    if m > 4000 {
-        return 2;
-    }
-    if after.len() < n as usize + m as usize {
-        return 3;
-    }
-    if tail.len() < m as usize {
-        return 3;
-    }
-    words_number(n, m, after, tail)
+    check_words(g)
 }

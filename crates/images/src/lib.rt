@@ -5,7 +5,11 @@
 #![tactic(auto)]
 
 mod check;
+mod image;
 mod nodes;
+mod sizes;
 
 pub use check::{check_image, tail_out};
+pub use image::Image;
 pub use nodes::{Edge, Vertex, is_link, is_vertex};
+pub use sizes::check_sizes;

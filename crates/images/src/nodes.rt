@@ -14,10 +14,7 @@ pub fn is_vertex(n: u16, v: Vertex) -> bool
     ensures { result ≡ is_vertex n v.0 }
 {
     let x = v.0;
-    if x == 0 {
-        return false;
-    }
-    x <= n
+    x != 0 && x <= n
 }
 
 // Whether e is null or one of the edges n + 1 to n + m.
@@ -25,11 +22,5 @@ pub fn is_link(n: u16, m: u16, e: Edge) -> bool
     ensures { result ≡ is_link n m e.0 }
 {
     let x = e.0;
-    if x == 0 {
-        return true;
-    }
-    if x <= n {
-        return false;
-    }
-    x - n <= m
+    x == 0 || x > n && x - n <= m
 }

@@ -10,10 +10,6 @@ use Rattle.walks.specs.declared.write.Walked.{Walked}
 use Rattle.walks.specs.Writing.{no_events}
 
 -- ---- refusals
--- The conditions that ask only the sizes.
-abbrev pub sizes_out : ℕ → ℕ → List Refusal
-sizes_out n m = refuse 1 (vertices_out n) ∷ refuse 2 (edges_out m) ∷ []
-
 -- The areas that every walk writes: n + m marks and 6 (n + m) event words.
 abbrev pub written_areas : ℕ → List ℕ → List ℕ → List Lent
 written_areas nodes marks events = lent nodes marks ∷ lent (6 * nodes) events ∷ []

@@ -1,10 +1,7 @@
-use Prim.Native.Nat.{◌+◌, ◌-◌}
+use Prim.Native.Nat.{◌+◌}
 use Rattle.graphs.specs.Nodes.{is_link}
 use Rattle.images.proofs.Checks.{Tested}
 use Rattle.images.proofs.check.after_out.Given as goal
 
-abbrev pub invariant-loop-i : goal.invariant-loop-i
-invariant-loop-i l = Tested (is_link l.n l.m) l.after (l.n + l.m) l.i l.out
-
-abbrev pub decreases-loop-i : goal.decreases-loop-i
-decreases-loop-i l = l.n + l.m - l.i
+abbrev pub invariant-loop-word : goal.invariant-loop-word
+invariant-loop-word l = Tested (is_link l.g.n l.g.m) l.g.after.now (l.g.n + l.g.m) l.word-index l.out

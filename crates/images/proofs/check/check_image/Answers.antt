@@ -1,41 +1,33 @@
 -- `images::check::check_image` meets its contract: the number of the first of 1, 2, 3, 5, 6 and 7 that is true.
--- Each test made so far has its value; the rest is what `words_number` ensures.
-use Prim.Native.Nat.{◌+◌}
-use lib.ListN.{length}
-use borrow.Author.Tests.{eq-eqb, ne_eqb, lt-ltb, le-ltb}
-use Rattle.graphs.specs.Refusals.{image_number}
+use Rattle.std.proofs.Common.{[], ◌∷◌, ◌++◌, sym, ◌∙◌}
+use Rattle.std.proofs.lemmas.Result.{err_from_is_err_and}
+use Rattle.refusals.proofs.Numbers.{refused-not-taken}
+use Rattle.graphs.specs.Refusals.{Refusal, refuse, short, image_areas, image_refusals, image_number, sizes_out}
+use Rattle.graphs.proofs.Refusals.{first-true, first-false, first-refused, first_rest, sizes-numbered, tested-short, tested-long}
+use Rattle.graphs.specs.Image.{Image}
+use Rattle.images.specs.Checking.{image_of}
 use Rattle.images.proofs.check.check_image.Goals as goal
 
-pub returns-then-n-eq0 : goal.returns-then-n-eq0
-unfolding image_number
-returns-then-n-eq0 c = rw (eq-eqb c.args.n 0 c.if-n-eq0.true)
+abbrev areas : Image → Refusal
+areas g = refuse 3 (short (image_areas g ++ []))
 
-pub returns-then-n-gt1000 : goal.returns-then-n-gt1000
+pub returns-in_err-check_sizes : goal.returns-in_err-check_sizes
 unfolding image_number
-returns-then-n-gt1000 c =
-    let a = c.args in
-    rw (ne_eqb a.n 0 c.if-n-eq0.false, lt-ltb 1000 a.n c.if-n-gt1000.true)
+returns-in_err-check_sizes c =
+    let g = image_of c.args.g.now in
+    let p = err_from_is_err_and c.from_residual.result c.from_residual.ensures.1 in
+    rw (p.1, p.2) (first-refused (sizes_out g.n g.m) (areas g ∷ image_refusals g) c.in_err-check_sizes.ensures (refused-not-taken c.in_err-check_sizes.field-0.0))
 
-pub returns-then-m-gt4000 : goal.returns-then-m-gt4000
+pub returns-then-not-is_long : goal.returns-then-not-is_long
 unfolding image_number
-returns-then-m-gt4000 c =
-    let a = c.args in
-    rw (ne_eqb a.n 0 c.if-n-eq0.false, le-ltb 1000 a.n c.if-n-gt1000.false, lt-ltb 4000 a.m c.if-m-gt4000.true)
-
-pub returns-then-after-n : goal.returns-then-after-n
-unfolding image_number
-returns-then-after-n c =
-    let a = c.args in
-    rw (ne_eqb a.n 0 c.if-n-eq0.false, le-ltb 1000 a.n c.if-n-gt1000.false, le-ltb 4000 a.m c.if-m-gt4000.false, lt-ltb (length a.after.now) (a.n + a.m) c.if-after-n.true)
-
-pub returns-then-tail-m : goal.returns-then-tail-m
-unfolding image_number
-returns-then-tail-m c =
-    let a = c.args in
-    rw (ne_eqb a.n 0 c.if-n-eq0.false, le-ltb 1000 a.n c.if-n-gt1000.false, le-ltb 4000 a.m c.if-m-gt4000.false, le-ltb (length a.after.now) (a.n + a.m) c.if-after-n.false, lt-ltb (length a.tail.now) a.m c.if-tail-m.true)
+returns-then-not-is_long c =
+    let g = image_of c.args.g.now in
+    let own = image_refusals g in
+    first-true own (tested-short c.is_long.ensures c.if-not-is_long.true) ∙ sym (first_rest (sizes_out g.n g.m) (areas g ∷ own) (sizes-numbered g.n g.m) (sym c.in_ok-check_sizes.ensures))
 
 pub returns : goal.returns
 unfolding image_number
 returns c =
-    let a = c.args in
-    rw (ne_eqb a.n 0 c.if-n-eq0.false, le-ltb 1000 a.n c.if-n-gt1000.false, le-ltb 4000 a.m c.if-m-gt4000.false, le-ltb (length a.after.now) (a.n + a.m) c.if-after-n.false, le-ltb (length a.tail.now) a.m c.if-tail-m.false) c.words_number.ensures
+    let g = image_of c.args.g.now in
+    let own = image_refusals g in
+    c.check_words.ensures ∙ first-false 3 own (tested-long c.is_long.ensures c.if-not-is_long.false) ∙ sym (first_rest (sizes_out g.n g.m) (areas g ∷ own) (sizes-numbered g.n g.m) (sym c.in_ok-check_sizes.ensures))

@@ -1,24 +1,22 @@
 -- `images::check::list_out` meets its contract: what it returns is condition 7, whatever the tails.
 -- The loop keeps that every edge of the lists followed was new. One met again, or fewer than m met, is what the condition says.
-use mathlib.Core.Path.{◌≡◌, refl, sym}
-use native.Mathlib.Omega.{arith}
-use Rattle.images.proofs.Checks.{follows-long, can-follow, met-again, met-more, met_all}
+use Rattle.std.proofs.Common.{◌≡◌, ℕ, ◌<◌, List, length, take, refl, sym, ◌∙◌, arith}
+use Rattle.std.proofs.lemmas.List.{length-take}
+use Rattle.images.proofs.Checks.{can-follow, met-again, met-more, met_all}
 use Rattle.images.proofs.check.list_out.Goals as goal
 
-pub loop-i-init : goal.loop-i-init
-loop-i-init c = (omega arith, λ tail. refl)
+-- The list that is followed begins at one of the first n words.
+below : (n i : ℕ) (after : List ℕ) → i < length (take n after) → i < n
+below n i after h = omega (arith, length-take n after)
 
-pub slice_bounds-flag_list-end : goal.slice_bounds-flag_list-end
-slice_bounds-flag_list-end c = sym (follows-long (can-follow c.requires c.loop-i-test.true c.loop-i.invariant.1))
+pub flag_list-requires : goal.flag_list-requires
+flag_list-requires c = can-follow c.requires (below _ _ _ c.loop-first-test.true) c.loop-first.invariant.1
 
-pub flag_list-f-requires : goal.flag_list-f-requires
-flag_list-f-requires c = can-follow c.requires c.loop-i-test.true c.loop-i.invariant.1
+pub returns-in_default : goal.returns-in_default
+returns-in_default c = λ tail. sym (met-again c.requires (below _ _ _ c.loop-first-test.true) c.loop-first.invariant.1 _ refl (sym c.in_default.is ∙ c.flag_list.ensures.count) tail)
 
-pub returns-then-not-new : goal.returns-then-not-new
-returns-then-not-new c = λ tail. sym (met-again c.requires c.loop-i-test.true c.loop-i.invariant.1 c.flag_list-f.ensures c.if-not-new.true tail)
-
-pub loop-i-preserved : goal.loop-i-preserved
-loop-i-preserved c = (omega arith, met-more c.requires c.loop-i-test.true c.loop-i.invariant.1 c.flag_list-f.ensures c.if-not-new.false)
+pub loop-first-preserved : goal.loop-first-preserved
+loop-first-preserved c = (omega (arith, below _ _ _ c.loop-first-test.true), met-more c.requires (below _ _ _ c.loop-first-test.true) c.loop-first.invariant.1 _ refl (sym c.in-Some.is ∙ c.flag_list.ensures.count) c.flag_list.ensures.flags)
 
 pub returns : goal.returns
-returns c = let e : c.loop-i.i ≡ c.args.n = omega arith in met_all c.requires c.loop-i.invariant.1 e
+returns c = let e : c.loop-first.first-index ≡ c.args.g.now.n = omega (arith, length-take c.args.g.now.n c.args.g.now.after.now) in met_all c.requires c.loop-first.invariant.1 e

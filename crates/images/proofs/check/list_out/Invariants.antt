@@ -1,9 +1,6 @@
-use Prim.Native.Nat.{◌-◌, ◌≤◌}
+use Prim.Native.Nat.{◌≤◌}
 use Rattle.images.proofs.Checks.{Met}
 use Rattle.images.proofs.check.list_out.Given as goal
 
-abbrev pub invariant-loop-i : goal.invariant-loop-i
-invariant-loop-i l = (l.i ≤ l.n) × Met l.n l.m l.after l.flags l.count l.i
-
-abbrev pub decreases-loop-i : goal.decreases-loop-i
-decreases-loop-i l = l.n - l.i
+abbrev pub invariant-loop-first : goal.invariant-loop-first
+invariant-loop-first l = (l.first-index ≤ l.g.n) × Met l.g.n l.g.m l.g.after.now l.flags l.count l.first-index

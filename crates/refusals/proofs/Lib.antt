@@ -1,0 +1,2 @@
+-- What a caller of a refused call concludes.
+pub mod Numbers
