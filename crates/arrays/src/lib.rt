@@ -13,7 +13,7 @@ ghost use Rattle.images.specs.Checking.{image};
 ghost use Rattle.arrays.specs.Arrays.{convert_number, queried, array_in};
 ghost use Rattle.arrays.specs.Grouping.{CanList, CanGroup};
 
-use images::{Vertex, check_image, is_vertex, tail_out};
+use images::{Image, Vertex, check_image, is_vertex, tail_out};
 
 // Writes the edges of the list of u from position p on, each with the vertex that it leads to, and gives the position past them.
 fn list_edges(
@@ -109,7 +109,8 @@ fn convert_number(
     if numbers.len() < m as usize {
         return 3;
     }
-    check_image(n, m, after, tail)
+    let g = Image { n, m, after, tail };
+    refusals::number(check_image(&g))
 }
 
 // Converts a linked image to array form: n + 1 first positions, m tails, and the edge number of each position. Refused by 1, 2, 3 (all

@@ -40,4 +40,4 @@ unfolding image_number
 returns-then-numbers-m c = simp (ne_eqb _ _ c.if-n-eq0.false, le-ltb _ _ c.if-n-gt1000.false, le-ltb _ _ c.if-m-gt4000.false, le-ltb _ _ c.if-after-n.false, le-ltb _ _ c.if-tail-m.false, le-ltb _ _ c.if-firsts-n.false, le-ltb _ _ c.if-tails-m.false, lt-ltb _ _ c.if-numbers-m.true)
 
 pub returns : goal.returns
-returns c = let z = c.args in c.check_image.ensures ∙ convert-same (image z.n z.m z.after.now z.tail.now) z.firsts.now z.tails.now z.numbers.now c.if-firsts-n.false c.if-tails-m.false c.if-numbers-m.false
+returns c = let z = c.args in c.number.ensures ∙ c.check_image.ensures ∙ convert-same (image z.n z.m z.after.now z.tail.now) z.firsts.now z.tails.now z.numbers.now c.if-firsts-n.false c.if-tails-m.false c.if-numbers-m.false
