@@ -1,5 +1,5 @@
 // A linked image in the areas that it is lent in.
-ghost use Rattle.std.specs.Prelude.{◌≡◌, ◌+◌, not};
+ghost use Rattle.std.specs.Prelude.{◌≡◌, ◌+◌, ◌≤◌, not};
 ghost use Rattle.graphs.specs.Refusals.{short, image_areas};
 ghost use Rattle.images.specs.Checking.{image_of};
 
@@ -15,7 +15,8 @@ pub struct Image<'a> {
 impl Image<'_> {
     // How many nodes it has: vertices and edges.
     pub fn nodes(&self) -> usize
-        ensures { result ≡ self.now.n + self.now.m }
+        ensures count { result ≡ self.now.n + self.now.m }
+        ensures few { result ≤ 131070 }
     {
         self.n as usize + self.m as usize
     }

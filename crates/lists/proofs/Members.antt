@@ -8,7 +8,8 @@ use Prim.Native.Nat.{ℕ, zero, suc, ◌+◌, ◌≤◌, ◌<◌}
 use native.Mathlib.Omega.{arith}
 use lib.ListN.{length}
 use lib.Dec.{eqb}
-use borrow.Author.Tests.{eqb-true, eq-eqb}
+use borrow.Author.Tests.{eqb-true, eqb-false, eq-eqb, ne_eqb}
+use Rattle.std.specs.List.{list_any}
 use Rattle.lists.specs.Members.{Mem, here, there, memb, NoDup, Same, cons_if, without}
 use Rattle.lists.proofs.Tests.{clash, or-true}
 
@@ -52,6 +53,18 @@ memb-of-not x l h = go (memb x l) refl
     go : (b : Bool) → memb x l ≡ b → b ≡ false
     go true e = absurd (h (memb-true x l e))
     go false e = refl
+
+-- The library's search of a list, by a test that says what `eqb x` says.
+pub any-memb : (x : ℕ) (test : ℕ → Bool) (l : List ℕ) → ((y : ℕ) → test y ≡ eqb x y) → list_any test l ≡ memb x l
+any-memb x test [] same = refl
+any-memb x test (y ∷ l) same = rw (same y, any-memb x test l same)
+
+pub eqb-turned : (x y : ℕ) → eqb y x ≡ eqb x y
+eqb-turned x y = go (eqb x y) refl
+  where
+    go : (b : Bool) → eqb x y ≡ b → eqb y x ≡ b
+    go true e = eq-eqb y x (sym (eqb-true x y e))
+    go false e = ne_eqb y x (λ h. eqb-false x y e (sym h))
 
 -- ---- appended and reversed
 pub mem-left : {x : ℕ} {k : List ℕ} (l : List ℕ) → Mem x k → Mem x (k ++ l)

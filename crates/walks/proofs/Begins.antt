@@ -16,7 +16,7 @@ use Rattle.graphs.proofs.Refusals.{long, refused}
 use Rattle.graphs.proofs.Blanks.{Listed}
 use Rattle.graphs.proofs.Room.{room}
 use Rattle.graphs.proofs.Sound.{Sound, profile_sound}
-use Rattle.walks.specs.declared.write.Walked.{Walked}
+use Rattle.walks.specs.Promises.{Walked}
 use Rattle.walks.specs.Promises.{written_areas, walk_number, depth_walk, breadth_walk, tallied, Promised}
 use Rattle.walks.specs.Writing.{no_events, Held, Roomy}
 use Rattle.walks.proofs.Events.{words-many}

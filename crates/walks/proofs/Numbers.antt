@@ -9,12 +9,13 @@ use native.Mathlib.Omega.{arith}
 use lib.Dec.{eqb, ltb, leb}
 use lib.ListN.{length}
 use borrow.Author.Tests.{le-ltb, le-leb, lt-leb, ltb-true, ltb-false, not-true, not-false}
+use Rattle.lists.proofs.Tests.{clash}
 use Rattle.graphs.specs.Nodes.{is_vertex}
 use Rattle.graphs.specs.Image.{Image}
 use Rattle.graphs.specs.ArrayForm.{ArrayForm}
-use Rattle.graphs.specs.Refusals.{Refusal, refuse, first_of, Lent, lent, short, vertex_out, first_out, tail_out, size_refusals, image_areas, image_refusals, blank_refusals, image_number, search_number, array_areas, array_refusals, array_number, array_search_number}
-use Rattle.graphs.proofs.Refusals.{first-front, first_rest}
-use Rattle.walks.specs.Promises.{sizes_out, array_walk_number}
+use Rattle.graphs.specs.Refusals.{Refusal, refuse, first_of, Lent, lent, short, sizes_out, vertex_out, first_out, tail_out, size_refusals, image_areas, image_refusals, blank_refusals, image_number, search_number, array_areas, array_refusals, array_number, array_search_number}
+use Rattle.graphs.proofs.Refusals.{first-front, first_rest, first-true, first-false, sizes-numbered}
+use Rattle.walks.specs.Promises.{array_walk_number}
 
 -- The conditions of the checker alone, and of a query.
 abbrev image_checks : Image → List Refusal
@@ -76,6 +77,46 @@ pub array-sized : (a : ArrayForm) (before : List ℕ) (start : ℕ) (areas : Lis
 unfolding array_search_number
 array-sized a before start areas e ne =
     sizes-refuse a.n a.m e (refuse 3 (short (array_areas a ++ areas)) ∷ refuse 4 (vertex_out a.n start) ∷ (array_refusals a ++ blank_refusals a.n before start)) ne
+
+-- Areas of an image, and after them those of the search's own.
+module _ (areas : List Lent) where
+  areas-short : (ks : List Lent) → short ks ≡ true → short (ks ++ areas) ≡ true
+  areas-short [] h = clash (sym h)
+  areas-short (lent k a ∷ ks) h = go (ltb (length a) k) (areas-short ks) h
+    where
+      go : (b : Bool) → (short ks ≡ true → short (ks ++ areas) ≡ true) → (b || short ks) ≡ true → (b || short (ks ++ areas)) ≡ true
+      go true ih q = refl
+      go false ih q = ih q
+
+  areas-long : (ks : List Lent) → short ks ≡ false → short areas ≡ short (ks ++ areas)
+  areas-long [] h = refl
+  areas-long (lent k a ∷ ks) h = go (ltb (length a) k) (areas-long ks) h
+    where
+      go : (b : Bool) → (short ks ≡ false → short areas ≡ short (ks ++ areas)) → (b || short ks) ≡ false → short areas ≡ (b || short (ks ++ areas))
+      go true ih q = clash q
+      go false ih q = ih q
+
+-- Past the sizes: an area of the image, one of the search's own, or the start gives the number.
+module _ (g : Image) (before : List ℕ) (start : ℕ) (areas : List Lent) (sized : 0 ≡ first_of (sizes_out g.n g.m)) where
+  abbrev words : List Refusal
+  words = image_refusals g ++ blank_refusals g.n before start
+
+  abbrev rest : List Refusal
+  rest = refuse 4 (vertex_out g.n start) ∷ words
+
+  past-sizes : first_of (refuse 3 (short (image_areas g ++ areas)) ∷ rest) ≡ search_number g before start areas
+  unfolding search_number
+  past-sizes = sym (first_rest (sizes_out g.n g.m) (refuse 3 (short (image_areas g ++ areas)) ∷ rest) (sizes-numbered g.n g.m) (sym sized))
+
+  pub search-short : short (image_areas g) ≡ true → 3 ≡ search_number g before start areas
+  search-short h = first-true rest (areas-short areas (image_areas g) h) ∙ past-sizes
+
+  module _ (long : short (image_areas g) ≡ false) where
+    pub search-own : short areas ≡ true → 3 ≡ search_number g before start areas
+    search-own h = first-true rest (sym (areas-long areas (image_areas g) long) ∙ h) ∙ past-sizes
+
+    pub search-start : short areas ≡ false → vertex_out g.n start ≡ true → 4 ≡ search_number g before start areas
+    search-start h v = first-true words v ∙ first-false 3 rest (sym (areas-long areas (image_areas g) long) ∙ h) ∙ past-sizes
 
 -- The checker's number, and past it that of the list.
 module _ (g : Image) (before : List ℕ) (start : ℕ) (areas : List Lent) (c : short areas ≡ false) (d : is_vertex g.n start ≡ true) where

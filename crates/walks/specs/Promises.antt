@@ -1,12 +1,13 @@
 -- What the walkers promise: the order of their refusals, and what they leave (document 01, "Events" and "Turned back").
-use Rattle.std.specs.Prelude.{◌≡◌, List, [], ◌∷◌, ◌++◌, ℕ, zero, suc, ◌+◌, ◌*◌}
+use Rattle.std.specs.Prelude.{◌≡◌, List, [], ◌∷◌, ◌++◌, ℕ, zero, suc, ◌+◌, ◌*◌, Result, Ok, Err}
 use Rattle.graphs.specs.Events.{History, tally}
 use Rattle.graphs.specs.Results.{marks_left, events_left}
 use Rattle.graphs.specs.Search.{depth_first, breadth_first}
 use Rattle.graphs.specs.Image.{Image, graph_of}
 use Rattle.graphs.specs.ArrayForm.{ArrayForm, array_graph}
-use Rattle.graphs.specs.Refusals.{Refusal, refuse, vertices_out, edges_out, Lent, lent, search_number, array_search_number, unless_refused}
-use Rattle.walks.specs.declared.write.Walked.{Walked}
+use Rattle.graphs.specs.Refusals.{Lent, lent, search_number, array_search_number, unless_refused}
+use Rattle.refusals.specs.declared.Refusal as code
+use Rattle.refusals.specs.Numbers.{number_of}
 use Rattle.walks.specs.Writing.{no_events}
 
 -- ---- refusals
@@ -35,6 +36,16 @@ abbrev pub breadth_walk : Image → List ℕ → ℕ → History
 breadth_walk g before start = breadth_first (graph_of g) before start
 
 -- ---- answers
+-- A walker's answer: the number of its refusal, else 0, and its events by kind.
+pub record Walked : Type 0 where
+  pub number : ℕ
+  pub tally : List ℕ
+
+-- A refused walk has emitted nothing.
+abbrev pub walked_of : Result (List ℕ) code.Refusal → Walked
+walked_of (Ok t) = record { number = 0; tally = t }
+walked_of (Err r) = record { number = number_of r; tally = no_events }
+
 -- The tally of a call: that of its events, seven zeros where it is refused.
 abbrev pub tallied : ℕ → History → List ℕ
 tallied zero h = tally h

@@ -1,12 +1,14 @@
-// What the whole-run walkers have in common: the numbers of their refusals, their answer, and what every walk writes.
+// What the whole-run walkers have in common: the tests before a walk, its answer, and what every walk writes.
 //
 // Every public function takes any input at all. Document 01's element is a vertex here, its reference an edge.
 #![tactic(auto)]
 
+mod checks;
+mod kinds;
 mod listed;
-mod refusals;
 mod write;
 
+pub use checks::{check_search, check_walk};
+pub use kinds::Kind;
 pub use listed::{is_listed, rises};
-pub use refusals::{array_walk_number, search_number, walk_number};
-pub use write::{Walked, begin, clear, emit, label, mark_blanks, refused};
+pub use write::{begin, clear, emit, label, mark_blanks};

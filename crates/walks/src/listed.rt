@@ -8,17 +8,14 @@ pub fn rises(n: u16, list: &[u16]) -> bool
     ensures { result ≡ rises n 0 list.now }
 {
     let mut last: u16 = 0;
-    let mut i: usize = 0;
-    while i < list.len() {
-        let x = list[i];
-        if x <= last {
+    for x in list {
+        if *x <= last {
             return false;
         }
-        if x > n {
+        if *x > n {
             return false;
         }
-        last = x;
-        i += 1;
+        last = *x;
     }
     true
 }
@@ -27,12 +24,5 @@ pub fn rises(n: u16, list: &[u16]) -> bool
 pub fn is_listed(x: u16, list: &[u16]) -> bool
     ensures { result ≡ memb x list.now }
 {
-    let mut i: usize = 0;
-    while i < list.len() {
-        if list[i] == x {
-            return true;
-        }
-        i += 1;
-    }
-    false
+    list.contains(&x)
 }

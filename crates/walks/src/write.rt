@@ -4,25 +4,8 @@ ghost use Rattle.std.specs.Prelude.{◌≡◌, ◌/◌, min, length};
 ghost use Rattle.lists.specs.Words.{cleared};
 ghost use Rattle.walks.specs.Writing.{total, has_room, tally_after, events_after, label_tally, label_marks, label_events, blank_marked, blanks_marked, no_events};
 
+use crate::kinds::Kind;
 use images::{Edge, Vertex};
-
-// A walker's answer: the number of its refusal, else 0, and its events by kind.
-#[derive(Clone, Copy)]
-pub struct Walked {
-    pub number: u16,
-    pub tally: [u32; 7],
-}
-
-// A refused walk has emitted nothing.
-pub fn refused(k: u16) -> Walked
-    ensures number { result.number ≡ k }
-    ensures tally { result.tally ≡ no_events }
-{
-    Walked {
-        number: k,
-        tally: [0; 7],
-    }
-}
 
 // The events tallied.
 fn count(tally: [u32; 7]) -> usize
@@ -37,26 +20,20 @@ fn most_events(a: usize) -> usize
     ensures { result ≡ min (a / 3) 10001 }
 {
     let most = a / 3;
-    if most > 10001 {
-        return 10001;
-    }
-    most
+    most.min(10001)
 }
 
 // Whether one event more can be written behind those tallied, in an area of a words.
 fn has_room(kind: u16, tally: [u32; 7], a: usize) -> bool
     ensures { result ≡ has_room kind tally a }
 {
-    if kind == 0 {
-        return false;
-    }
-    if kind > 7 {
+    if kind == 0 || kind > 7 {
         return false;
     }
     count(tally) < most_events(a)
 }
 
-// Writes one event behind those tallied, and counts it.
+// Writes one event behind those tallied, and counts it. No event has another number than 1 to 7.
 pub fn emit(events: &mut [u16], kind: u16, r: Edge, u: Vertex, tally: [u32; 7]) -> [u32; 7]
     ensures tally { result ≡ tally_after kind tally (length events.old) }
     ensures events { events.new ≡ events_after kind r.0 u.0 tally events.old }
@@ -70,7 +47,7 @@ pub fn emit(events: &mut [u16], kind: u16, r: Edge, u: Vertex, tally: [u32; 7]) 
     events[at + 2] = u.0;
     let k = kind as usize - 1;
     let mut t = tally;
-    t[k] = t[k] + 1;
+    t[k] += 1;
     t
 }
 
@@ -84,44 +61,31 @@ pub fn label(marks: &mut [u16], events: &mut [u16], u: Vertex, tally: [u32; 7]) 
     if x == 0 {
         return tally;
     }
-    if (x as usize) > marks.len() {
+    if x as usize > marks.len() {
         return tally;
     }
-    if !has_room(1, tally, events.len()) {
+    if !has_room(Kind::Label as u16, tally, events.len()) {
         return tally;
     }
     let i = x as usize - 1;
     marks[i] = (tally[0] + 1) as u16;
-    emit(events, 1, Edge(0), u, tally)
+    emit(events, Kind::Label as u16, Edge(0), u, tally)
 }
 
 // Clears the first k words, all where there are fewer.
 pub fn clear(area: &mut [u16], k: usize)
     ensures { area.new ≡ cleared (min k (length area.old)) area.old }
 {
-    let mut top = area.len();
-    if k < top {
-        top = k;
-    }
-    let mut i: usize = 0;
-    while i < top {
-        area[i] = 0;
-        i += 1;
-    }
+    let top = k.min(area.len());
+    area[..top].fill(0);
 }
 
 // Marks x with 65,535, where it is one of so many nodes and has a mark.
 fn mark_blank(marks: &mut [u16], nodes: usize, x: u16)
     ensures { marks.new ≡ blank_marked (min nodes (length marks.old)) x marks.old }
 {
-    if x == 0 {
-        return;
-    }
     let node = x as usize;
-    if node > nodes {
-        return;
-    }
-    if node > marks.len() {
+    if node == 0 || node > nodes || node > marks.len() {
         return;
     }
     let i = node - 1;
@@ -133,11 +97,8 @@ pub fn mark_blanks(marks: &mut [u16], nodes: usize, before: &[u16])
     ensures { marks.new ≡ blanks_marked nodes before.now marks.old }
 {
     clear(marks, nodes);
-    let mut i: usize = 0;
-    while i < before.len() {
-        let x = before[i];
-        mark_blank(marks, nodes, x);
-        i += 1;
+    for x in before {
+        mark_blank(marks, nodes, *x);
     }
 }
 

@@ -5,8 +5,8 @@ use Rattle.images.proofs.Checks.{tested-next, tested-all}
 use Rattle.images.proofs.check.after_out.Goals as goal
 
 pub loop-word-preserved : goal.loop-word-preserved
-loop-word-preserved c = tested-next c.loop-word.invariant c.nodes.ensures c.requires.long_after c.loop-word-test.true c.is_link-link.ensures
+loop-word-preserved c = tested-next c.loop-word.invariant c.nodes.ensures.count c.requires.long_after c.loop-word-test.true c.is_link-link.ensures
 
 pub returns : goal.returns
 unfolding after_out
-returns c = λ tail. tested-all c.loop-word.invariant c.nodes.ensures c.requires.long_after c.loop-word-test.false
+returns c = λ tail. tested-all c.loop-word.invariant c.nodes.ensures.count c.requires.long_after c.loop-word-test.false

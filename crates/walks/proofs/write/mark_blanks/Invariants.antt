@@ -1,13 +1,10 @@
 use mathlib.Core.Path.{◌≡◌}
 use mathlib.Core.List.{List, []}
-use Prim.Native.Nat.{ℕ, ◌-◌, min}
+use Prim.Native.Nat.{ℕ, min}
 use lib.ListN.{length, take}
 use Rattle.graphs.specs.Results.{marks_first}
 use Rattle.walks.proofs.write.mark_blanks.Given as goal
 
-abbrev pub invariant-loop-i : goal.invariant-loop-i
-invariant-loop-i l = (length l.marks ≡ length l.initial.marks)
-    × ((area : List ℕ) → l.initial.marks ≡ marks_first (min l.nodes (length area)) [] area → l.marks ≡ marks_first (min l.nodes (length area)) (take l.i l.before) area)
-
-abbrev pub decreases-loop-i : goal.decreases-loop-i
-decreases-loop-i l = length l.before - l.i
+abbrev pub invariant-loop-x : goal.invariant-loop-x
+invariant-loop-x l = (length l.marks ≡ length l.initial.marks)
+    × ((area : List ℕ) → l.initial.marks ≡ marks_first (min l.nodes (length area)) [] area → l.marks ≡ marks_first (min l.nodes (length area)) (take l.x-index l.before) area)
