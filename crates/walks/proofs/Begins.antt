@@ -16,8 +16,10 @@ use Rattle.graphs.proofs.Refusals.{long, refused}
 use Rattle.graphs.proofs.Blanks.{Listed}
 use Rattle.graphs.proofs.Room.{room}
 use Rattle.graphs.proofs.Sound.{Sound, profile_sound}
-use Rattle.walks.specs.Promises.{Walked}
-use Rattle.walks.specs.Promises.{written_areas, walk_number, depth_walk, breadth_walk, tallied, Promised}
+use Rattle.std.specs.Prelude.{Result, Ok, Err}
+use Rattle.refusals.specs.declared.Refusal as refusals
+use Rattle.refusals.specs.Numbers.{number_of, number_in}
+use Rattle.walks.specs.Promises.{Walked, walked_of, written_areas, walk_number, depth_walk, breadth_walk, tallied, Promised}
 use Rattle.walks.specs.Writing.{no_events, Held, Roomy}
 use Rattle.walks.proofs.Events.{words-many}
 
@@ -56,6 +58,14 @@ begins g before start marks events own e =
     }
 
 -- ---- what is promised
+-- What a walk answers: its number, and no events where it is refused.
+pub walked-number : (a : Result (List ℕ) refusals.Refusal) → (walked_of a).number ≡ number_in a
+walked-number (Ok t) = refl
+walked-number (Err r) = refl
+
+pub walked-silent : (r : refusals.Refusal) → ((walked_of (Err r)).number ≡ number_of r) × ((walked_of (Err r)).tally ≡ no_events)
+walked-silent r = (refl, refl)
+
 zeros-tallied : (k : ℕ) (h : History) → k ≢ 0 → no_events ≡ tallied k h
 zeros-tallied zero h ne = absurd (ne refl)
 zeros-tallied (suc k) h ne = refl
