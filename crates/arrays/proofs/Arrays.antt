@@ -1,18 +1,25 @@
 -- Laws of the array form: what a query that is taken may read, and what it gets.
 -- First positions that begin with 1, never fall and end with m + 1 lie between 1 and m + 1.
 use mathlib.Core.Path.{◌≡◌, refl, sym, ap, ◌∙◌}
-use mathlib.Core.Bool.{Bool, true, false, not, ◌&&◌}
+use mathlib.Core.Bool.{Bool, true, false, ◌&&◌}
 use mathlib.Core.List.{List, [], ◌∷◌, ◌++◌, map}
 use Prim.Native.Nat.{ℕ, zero, suc, ◌+◌, ◌-◌, ◌≤◌, ◌<◌}
 use native.Mathlib.Numerals.{add-one}
 use native.Mathlib.Omega.{arith}
 use lib.Dec.{eqb, leb}
 use lib.ListN.{length, get_or, take, drop}
-use borrow.Author.Tests.{eqb-true, eq-eqb, leb-true, le-leb, not-false}
+use borrow.Author.Tests.{eqb-true, leb-true, le-leb, lt-leb, not-false}
+use Rattle.std.specs.Prelude.{Some}
+use Rattle.std.specs.Bool.{MatchBool}
+use Rattle.std.specs.List.{IsAllAdjacentAnswer}
+use Rattle.std.specs.List.Sorted.{IsNonDecreasing}
+use Rattle.std.specs.Ordering.{is_le, is_some_and, nat_cmp}
+use Rattle.std.proofs.lemmas.List.{get_or-take, length-take-le}
+use Rattle.std.proofs.lemmas.List.Sorted.{non_decreasing_from_is_sorted}
 use Rattle.lists.specs.Counts.{all_to}
 use Rattle.lists.specs.Words.{at, values_from}
-use Rattle.lists.proofs.Tests.{and-true, both, Compared, equal, other, compare}
-use Rattle.lists.proofs.Counts.{all-at, all_of}
+use Rattle.lists.proofs.Tests.{both, Compared, equal, other, compare}
+use Rattle.lists.proofs.Counts.{all-at, all_of, all-fails}
 use Rattle.lists.proofs.Words.{read_at, word-here}
 use Rattle.graphs.specs.Nodes.{Vertex}
 use Rattle.graphs.specs.Image.{to}
@@ -21,7 +28,8 @@ use Rattle.graphs.specs.Refusals.{refuse, vertex_out, first_out, tail_out, size_
 use Rattle.graphs.proofs.Nodes.{vertex-is}
 use Rattle.graphs.proofs.Refusals.{refused, all-false, long}
 use Rattle.graphs.proofs.Arrays.{part-values, array_same}
-use Rattle.arrays.specs.Arrays.{array_in, part_of, queried}
+use Rattle.arrays.specs.Arrays.{part_of, queried}
+use Rattle.arrays.specs.Querying.{Asked}
 use Rattle.arrays.specs.Claims.{QueryClaim, ConvertClaim}
 
 -- ---- first positions
@@ -60,47 +68,40 @@ in-order a h =
       rises = λ u p q. leb-true (at 0 a.firsts u) (at 0 a.firsts (suc u)) (all-at (rise a) a.n two.1 u p q);
     }
 
-module _ (n m : ℕ) (firsts tails : List ℕ) where
-  broken : (InOrder (array_in n m firsts tails) → ⊥) → true ≡ first_out (array_in n m firsts tails)
-  broken h = go (first_out (array_in n m firsts tails)) refl
-    where
-      go : (b : Bool) → first_out (array_in n m firsts tails) ≡ b → true ≡ b
-      go true e = refl
-      go false e = absurd (h (in-order (array_in n m firsts tails) e))
-
-  pub wrong-begin : (get_or firsts 0 0 ≡ 1 → ⊥) → true ≡ first_out (array_in n m firsts tails)
-  wrong-begin h = broken (λ o. h (sym (word-here firsts 0) ∙ o.begins))
-
-  pub wrong-end : (get_or firsts n 0 ≡ m + 1 → ⊥) → true ≡ first_out (array_in n m firsts tails)
-  wrong-end h = broken (λ o. h (sym (word-here firsts n) ∙ o.ends ∙ sym (add-one m)))
-
-  pub falls : (i : ℕ) → i < n → get_or firsts (i + 1) 0 < get_or firsts i 0 → true ≡ first_out (array_in n m firsts tails)
-  falls i p h = broken (λ o. (let z = o.rises (suc i) (omega arith) (omega arith) in omega (arith, word-here firsts i, next_word firsts i)))
-
-  pub all_right : get_or firsts 0 0 ≡ 1 → get_or firsts n 0 ≡ m + 1 → (i : ℕ) → n ≤ i → Rising firsts i → false ≡ first_out (array_in n m firsts tails)
-  all_right b e i h r =
-      sym (ap not (and-true (eq-eqb (at 0 firsts 1) 1 (word-here firsts 0 ∙ b))
-      (and-true (eq-eqb (at 0 firsts (suc n)) (suc m) (word-here firsts n ∙ e ∙ add-one m))
-      (all_of (rise (array_in n m firsts tails)) n (λ u p q. le-leb (at 0 firsts u) (at 0 firsts (suc u)) (r u p (omega arith)))))))
-
-pub rising-more : (firsts : List ℕ) (i : ℕ) → Rising firsts i → get_or firsts i 0 ≤ get_or firsts (i + 1) 0 → Rising firsts (i + 1)
-rising-more firsts i r h u p q = go (compare u (suc i))
+-- The first n + 1 words never fall exactly where the first positions do not.
+pub sorted-rises : (a : ArrayForm) (r : Bool) → a.n + 1 ≤ length a.firsts → IsAllAdjacentAnswer (λ x y b. is_some_and is_le (Some (nat_cmp x y)) ≡ b) (take (a.n + 1) a.firsts) r → r ≡ all_to (rise a) a.n
+sorted-rises a r h s = go r (non_decreasing_from_is_sorted (take (a.n + 1) a.firsts) r s)
   where
-    go : Compared u (suc i) → at 0 firsts u ≤ at 0 firsts (suc u)
-    go (equal e t) = rw e (omega (arith, word-here firsts i, next_word firsts i))
-    go (other ne t) = r u p (omega arith)
+    words : List ℕ
+    words = take (a.n + 1) a.firsts
+
+    long-words : length words ≡ a.n + 1
+    long-words = length-take-le (a.n + 1) a.firsts h
+
+    here : (k : ℕ) → k < a.n + 1 → at 0 a.firsts (suc k) ≡ get_or words k 0
+    here k p = word-here a.firsts k ∙ sym (get_or-take (a.n + 1) a.firsts k 0 p)
+
+    go : (b : Bool) → MatchBool b (IsNonDecreasing words) ((k : ℕ) × (k + 1 < length words) × ((d : ℕ) → get_or words (k + 1) d < get_or words k d)) → b ≡ all_to (rise a) a.n
+    go true m = sym (all_of (rise a) a.n rises)
+      where
+        rises : (u : ℕ) → 0 < u → u ≤ a.n → rise a u ≡ true
+        rises zero p q = absurd (omega arith)
+        rises (suc k) p q = le-leb (at 0 a.firsts (suc k)) (at 0 a.firsts (suc (suc k))) (omega (arith, here k (omega arith), here (suc k) (omega arith), m k (suc k) 0 (omega arith) (omega (arith, long-words))))
+    go false m =
+        let k = m.0 in
+        let below : k + 1 < a.n + 1 = omega (arith, m.1, long-words) in
+        sym (all-fails (rise a) a.n (suc k) (omega arith) (omega arith) (lt-leb (at 0 a.firsts (suc k)) (at 0 a.firsts (suc (suc k))) (omega (arith, here k (omega arith), next_word a.firsts k, get_or-take (a.n + 1) a.firsts (k + 1) 0 below, m.2 0))))
+
+-- What the code tests of the first n + 1 words is the rule of first positions.
+module _ (a : ArrayForm) (h : a.n + 1 ≤ length a.firsts) where
+  pub begins : get_or (take (a.n + 1) a.firsts) 0 0 ≡ at 0 a.firsts 1
+  begins = get_or-take (a.n + 1) a.firsts 0 0 (omega arith) ∙ sym (word-here a.firsts 0)
+
+  pub ends : get_or (take (a.n + 1) a.firsts) a.n 0 ≡ at 0 a.firsts (suc a.n)
+  ends = get_or-take (a.n + 1) a.firsts a.n 0 (omega arith) ∙ sym (word-here a.firsts a.n)
 
 -- ---- queries
--- What is known of a query that is taken: the first positions of u and of the next element are read, and a part of the tails lies between them.
-pub record Asked (a : ArrayForm) (u : ℕ) : Type 0 where
-  pub vertex : 1 ≤ u
-  pub second : u < length a.firsts
-  pub low : 1 ≤ get_or a.firsts (u - 1) 0
-  pub rises : get_or a.firsts (u - 1) 0 ≤ get_or a.firsts u 0
-  pub high : get_or a.firsts u 0 ≤ suc a.m
-  pub long_tails : a.m ≤ length a.tails
-
-asked : (a : ArrayForm) (u : ℕ) → array_number a u [] ≡ 0 → Asked a u
+pub asked : (a : ArrayForm) (u : ℕ) → array_number a u [] ≡ 0 → Asked a u
 unfolding array_number
 asked a u h =
     let own = refuse 4 (vertex_out a.n u) ∷ refuse 5 (first_out a) ∷ refuse 6 (tail_out a.n a.m a.tails) ∷ [] in
@@ -118,7 +119,7 @@ asked a u h =
       long_tails = (long a.m a.tails [] firsts-long.1).0;
     }
 
-query-taken : (a : ArrayForm) (u : ℕ) → array_number a u [] ≡ 0 → queried a u ≡ part_of a u
+pub query-taken : (a : ArrayForm) (u : ℕ) → array_number a u [] ≡ 0 → queried a u ≡ part_of a u
 unfolding queried
 query-taken a u h = ap (λ (k : ℕ). unless_refused k (part_of a u) []) h
 
@@ -142,19 +143,13 @@ convert-queries g areas firsts tails h u v =
     (λ p q r. same.targets p (omega arith, omega (arith, read_at a.firsts u, word-here a.firsts u)))
     ∙ ap (map (to g)) (same.lists u v)
 
--- k is the number of a query.
-module _ (a : ArrayForm) (u k : ℕ) (is : k ≡ array_number a u []) where
-  pub query-refused : (k ≡ 0 → ⊥) → [] ≡ queried a u
-  unfolding queried
-  query-refused h = refused (array_number a u []) (part_of a u) [] (λ e. h (is ∙ e))
+pub query-refused : (a : ArrayForm) (u k : ℕ) → k ≡ array_number a u [] → (k ≡ 0 → ⊥) → [] ≡ queried a u
+unfolding queried
+query-refused a u k is h = refused (array_number a u []) (part_of a u) [] (λ e. h (is ∙ e))
 
-  pub query-asked : k ≡ 0 → Asked a u
-  query-asked e = asked a u (sym is ∙ e)
-
-  -- The part that the code hands out.
-  pub query-part : k ≡ 0 → take (get_or a.firsts u 0 - 1 - (get_or a.firsts (u - 1) 0 - 1)) (drop (get_or a.firsts (u - 1) 0 - 1) a.tails) ≡ queried a u
-  query-part e =
-      let q = query-asked e in
-      let from : get_or a.firsts (u - 1) 0 ≡ at 0 a.firsts u = sym (read_at a.firsts u) in
-      let many : get_or a.firsts u 0 - 1 - (get_or a.firsts (u - 1) 0 - 1) ≡ at 0 a.firsts (suc u) - at 0 a.firsts u = omega (arith, word-here a.firsts u) in
-      (λ i. take (many i) (drop (from i - 1) a.tails)) ∙ sym (query-taken a u (sym is ∙ e))
+-- The part that the code hands out.
+pub query-part : (a : ArrayForm) (u : ℕ) → Asked a u → take (get_or a.firsts u 0 - 1 - (get_or a.firsts (u - 1) 0 - 1)) (drop (get_or a.firsts (u - 1) 0 - 1) a.tails) ≡ part_of a u
+query-part a u q =
+    let from : get_or a.firsts (u - 1) 0 ≡ at 0 a.firsts u = sym (read_at a.firsts u) in
+    let many : get_or a.firsts u 0 - 1 - (get_or a.firsts (u - 1) 0 - 1) ≡ at 0 a.firsts (suc u) - at 0 a.firsts u = omega (arith, q.rises, q.vertex, from, word-here a.firsts u) in
+    (λ i. take (many i) (drop (from i - 1) a.tails))

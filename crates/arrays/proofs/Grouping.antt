@@ -1,19 +1,19 @@
 -- Laws of the converter: what its two loops have written so far.
 -- The list of u is what was written and what is still to follow; the lists of 1 to u are pasted one behind the other.
 use mathlib.Core.Path.{◌≡◌, refl, sym, ap, ◌∙◌, subst}
+use mathlib.Core.Bool.{false}
 use mathlib.Core.List.{List, [], ◌∷◌, ◌++◌, map, map-append, append-nil, append_assoc}
-use Prim.Native.Nat.{ℕ, suc, ◌+◌, ◌-◌, ◌≤◌, ◌<◌}
+use Prim.Native.Nat.{ℕ, zero, suc, ◌+◌, ◌-◌, ◌≤◌, ◌<◌}
 use native.Mathlib.Numerals.{add-one}
 use native.Mathlib.Omega.{arith}
 use lib.ListN.{length, get_or, set, length-append, length-map}
-use borrow.Author.Tests.{le-ltb}
 use Rattle.lists.specs.Members.{Mem, here, there}
 use Rattle.lists.specs.Words.{overlay, pasted, values_from}
 use Rattle.lists.proofs.Words.{read_past, length-values, values-append, pasted-front, pasted-none, pasted-next, pasted-pasted, length-pasted, read_at}
 use Rattle.graphs.specs.Nodes.{Edge}
 use Rattle.graphs.specs.Image.{Image, edges_of, to, lists_to}
 use Rattle.graphs.specs.ArrayForm.{array_of, numbers_of}
-use Rattle.graphs.specs.Refusals.{lent, image_number}
+use Rattle.graphs.specs.Refusals.{Lent, lent, short, image_areas, image_number}
 use Rattle.graphs.proofs.Refusals.{long}
 use Rattle.graphs.proofs.Sound.{Sound, head0, Linked, image-sound}
 use Rattle.graphs.proofs.Arrays.{lists-few}
@@ -45,11 +45,12 @@ pub record Listed (g : Image) (u p : ℕ) (tails₀ numbers₀ tails numbers : L
   tails-so : tails ≡ pasted (p - 1) (map (to g) done) tails₀
   numbers-so : numbers ≡ pasted (p - 1) done numbers₀
 
--- What a turn reads and writes lies in its areas.
+-- What a turn reads and writes lies in its areas, where r is an edge.
 pub record Turn (g : Image) (tails numbers : List ℕ) (q r : ℕ) : Type 0 where
-  pub edge : Edge g.n g.m r
+  pub edge : 0 < r → g.n < r
+  pub within : r ≤ g.n + g.m
   pub low : 1 ≤ q
-  pub high : q ≤ g.m
+  pub high : 0 < r → q ≤ g.m
   pub few_vertices : g.n ≤ 1000
   pub few_edges : g.m ≤ 4000
   pub long_after : g.n + g.m ≤ length g.after
@@ -57,14 +58,18 @@ pub record Turn (g : Image) (tails numbers : List ℕ) (q r : ℕ) : Type 0 wher
   pub long_tails : g.m ≤ length tails
   pub long_numbers : g.m ≤ length numbers
 
+bounded : (r k : ℕ) → (0 < r → r ≤ k) → r ≤ k
+bounded zero k h = omega arith
+bounded (suc r) k h = h (omega arith)
+
 -- r is the next edge.
 record Next (r : ℕ) (rest : List ℕ) : Type 0 where
   later : List ℕ
   is : rest ≡ r ∷ later
 
-next_edge : (r : ℕ) (rest : List ℕ) → r ≡ head0 rest → (r ≡ 0 → ⊥) → Next r rest
-next_edge r [] e ne = absurd (ne e)
-next_edge r (y ∷ l) e ne = record { later = l; is = ap (λ (z : ℕ). z ∷ l) (sym e) }
+next_edge : (r : ℕ) (rest : List ℕ) → r ≡ head0 rest → 0 < r → Next r rest
+next_edge r [] e h = absurd (omega (arith, e))
+next_edge r (y ∷ l) e h = record { later = l; is = ap (λ (z : ℕ). z ∷ l) (sym e) }
 
 module _ {g : Image} {u : ℕ} {tails₀ numbers₀ : List ℕ} {p : ℕ} (H : CanList g u tails₀ numbers₀ p) where
   S : Sound g
@@ -107,41 +112,46 @@ module _ {g : Image} {u : ℕ} {tails₀ numbers₀ : List ℕ} {p : ℕ} (H : C
         go [] h s a = rw (s ∙ append-nil L.done) (L.place, (L.tails-so, L.numbers-so))
         go (y ∷ l) h s a = absurd (let z = a y (here refl) in let k : r ≡ y = h in omega arith)
 
-    module _ (more : r ≡ 0 → ⊥) where
-      N : Next r L.rest
-      N = next_edge r L.rest L.next more
+    N : 0 < r → Next r L.rest
+    N = next_edge r L.rest L.next
 
-      pub list-turn : Turn g tails numbers q r
-      list-turn = record {
-        edge = L.edges r (subst (Mem r) (sym N.is) (here refl));
-        low = omega (arith, H.first, L.place);
-        high = omega (arith, list-few, ap length N.is);
-        few_vertices = S.few_vertices;
-        few_edges = S.few_edges;
-        long_after = S.long_after;
-        long_tail = S.long_tail;
-        long_tails = omega (arith, H.long_tails, list-lengths.0);
-        long_numbers = omega (arith, H.long_numbers, list-lengths.1);
-      }
+    list-edge : 0 < r → Edge g.n g.m r
+    list-edge h = L.edges r (subst (Mem r) (sym (N h).is) (here refl))
 
-      pub list-more : Listed g u p tails₀ numbers₀ (set tails (q - 1) (get_or g.tail (r - g.n - 1) 0)) (set numbers (q - 1) r) (q + 1) (get_or g.after (r - 1) 0)
-      list-more =
-          let k = list-turn in
-          let links : Linked g.after (r ∷ N.later) = subst (Linked g.after) N.is L.links in
-          record {
-            done = L.done ++ (r ∷ []);
-            rest = N.later;
-            splits = L.splits ∙ ap (λ (l : List ℕ). L.done ++ l) N.is ∙ sym (append_assoc L.done (r ∷ []) N.later);
-            edges = λ x e. L.edges x (subst (Mem x) (sym N.is) (there e));
-            links = links.1;
-            next = sym (read_at g.after r) ∙ links.0;
-            place = omega (arith, L.place, length-append L.done (r ∷ []));
-            tails-so =
-                ap (λ (w : ℕ). set tails (q - 1) w) (sym (read_past g.n g.tail r))
-                ∙ store p q (to g r) tails₀ (map (to g) L.done) tails L.tails-so H.first (omega (arith, L.place, length-map L.done (to g))) (omega (arith, H.long_tails))
-                ∙ ap (λ (l : List ℕ). pasted (p - 1) l tails₀) (sym (map-append (to g) L.done (r ∷ [])));
-            numbers-so = store p q r numbers₀ L.done numbers L.numbers-so H.first L.place (omega (arith, H.long_numbers));
-          }
+    pub list-turn : Turn g tails numbers q r
+    list-turn = record {
+      edge = λ h. (list-edge h).0;
+      within = bounded r (g.n + g.m) (λ h. (list-edge h).1);
+      low = omega (arith, H.first, L.place);
+      high = λ h. omega (arith, list-few, ap length (N h).is);
+      few_vertices = S.few_vertices;
+      few_edges = S.few_edges;
+      long_after = S.long_after;
+      long_tail = S.long_tail;
+      long_tails = omega (arith, H.long_tails, list-lengths.0);
+      long_numbers = omega (arith, H.long_numbers, list-lengths.1);
+    }
+
+    pub list-more : 0 < r → Listed g u p tails₀ numbers₀ (set tails (q - 1) (get_or g.tail (r - g.n - 1) 0)) (set numbers (q - 1) r) (q + 1) (get_or g.after (r - 1) 0)
+    list-more h =
+        let k = list-turn in
+        let next = N h in
+        let links : Linked g.after (r ∷ next.later) = subst (Linked g.after) next.is L.links in
+        let room : q ≤ g.m = k.high h in
+        record {
+          done = L.done ++ (r ∷ []);
+          rest = next.later;
+          splits = L.splits ∙ ap (λ (l : List ℕ). L.done ++ l) next.is ∙ sym (append_assoc L.done (r ∷ []) next.later);
+          edges = λ x e. L.edges x (subst (Mem x) (sym next.is) (there e));
+          links = links.1;
+          next = sym (read_at g.after r) ∙ links.0;
+          place = omega (arith, L.place, length-append L.done (r ∷ []));
+          tails-so =
+              ap (λ (w : ℕ). set tails (q - 1) w) (sym (read_past g.n g.tail r))
+              ∙ store p q (to g r) tails₀ (map (to g) L.done) tails L.tails-so H.first (omega (arith, L.place, length-map L.done (to g))) (omega (arith, H.long_tails))
+              ∙ ap (λ (l : List ℕ). pasted (p - 1) l tails₀) (sym (map-append (to g) L.done (r ∷ [])));
+          numbers-so = store p q r numbers₀ L.done numbers L.numbers-so H.first L.place (omega (arith, H.long_numbers));
+        }
 
 -- ---- all lists
 -- The first position of each element, as the array form has it.
@@ -240,15 +250,19 @@ module _ {g : Image} {firsts₀ tails₀ numbers₀ : List ℕ} (H : CanGroup g 
 
 -- ---- the converter's number
 -- Where the areas that it writes are long enough, the number is the checker's.
-pub convert-same : (g : Image) (firsts tails numbers : List ℕ) → g.n + 1 ≤ length firsts → g.m ≤ length tails → g.m ≤ length numbers → image_number g [] ≡ convert_number g firsts tails numbers
+pub convert-same : (g : Image) (areas : List Lent) → short areas ≡ false → image_number g [] ≡ image_number g areas
 unfolding image_number
-convert-same g firsts tails numbers a b c = rw (le-ltb (length firsts) (g.n + 1) a, le-ltb (length tails) g.m b, le-ltb (length numbers) g.m c)
+convert-same g areas h = rw h refl
+
+pub areas-long : (g : Image) (areas : List Lent) → short (image_areas g ++ areas) ≡ false → short areas ≡ false
+areas-long g areas h = (long g.m g.tail areas (long (g.n + g.m) g.after (lent g.m g.tail ∷ areas) h).1).1
 
 -- Where the number is 0 there is room.
-pub convert-group : (g : Image) (firsts tails numbers : List ℕ) (k : ℕ) → k ≡ convert_number g firsts tails numbers → k ≡ 0 → CanGroup g firsts tails numbers
-convert-group g firsts tails numbers k is e =
-    let h : convert_number g firsts tails numbers ≡ 0 = sym is ∙ e in
-    let one = long (g.n + 1) firsts (lent g.m tails ∷ lent g.m numbers ∷ []) (image-sound g (converted_areas g firsts tails numbers) h).1 in
+pub convert-group : {g : Image} {firsts tails numbers : List ℕ} → 0 ≡ convert_number g firsts tails numbers → CanGroup g firsts tails numbers
+convert-group {g} {firsts} {tails} {numbers} h =
+    let areas = converted_areas g firsts tails numbers in
+    let all = (image-sound g areas (sym h)).1 in
+    let one = long (g.n + 1) firsts (lent g.m tails ∷ lent g.m numbers ∷ []) all in
     let two = long g.m tails (lent g.m numbers ∷ []) one.1 in
     let three = long g.m numbers [] two.1 in
-    record { taken = convert-same g firsts tails numbers one.0 two.0 three.0 ∙ h; long_firsts = one.0; long_tails = two.0; long_numbers = three.0 }
+    record { taken = convert-same g areas all ∙ sym h; long_firsts = one.0; long_tails = two.0; long_numbers = three.0 }

@@ -4,6 +4,7 @@ use Rattle.lists.specs.Words.{at}
 use Rattle.graphs.specs.Image.{Image}
 use Rattle.graphs.specs.ArrayForm.{ArrayForm}
 use Rattle.graphs.specs.Refusals.{unless_refused, Lent, lent, image_number, array_number}
+use Rattle.arrays.specs.declared.form.ArrayForm as code
 
 -- The areas that the converter writes: n + 1 first positions, m tails, m edge numbers.
 abbrev pub converted_areas : Image → List ℕ → List ℕ → List ℕ → List Lent
@@ -16,6 +17,10 @@ convert_number g firsts tails numbers = image_number g (converted_areas g firsts
 -- The array form in two areas.
 abbrev pub array_in : (n m : ℕ) (firsts tails : List ℕ) → ArrayForm
 array_in n m firsts tails = record { n = n; m = m; firsts = firsts; tails = tails }
+
+-- The array form that a call is lent.
+abbrev pub form_of : code.ArrayForm → ArrayForm
+form_of a = array_in a.n a.m a.firsts.now a.tails.now
 
 -- The part of the tail area from the first position of u up to the next element's.
 abbrev pub part_of : ArrayForm → ℕ → List ℕ
