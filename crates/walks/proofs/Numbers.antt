@@ -4,18 +4,18 @@ use mathlib.Core.Path.{◌≡◌, refl, sym, ap, ◌∙◌}
 use mathlib.Core.Bool.{Bool, true, false, not, ◌&&◌, ◌||◌}
 use mathlib.Core.Logic.{◌≢◌}
 use mathlib.Core.List.{List, [], ◌∷◌, ◌++◌}
-use Prim.Native.Nat.{ℕ, ◌+◌, ◌*◌, ◌≤◌}
+use Prim.Native.Nat.{ℕ, ◌+◌}
 use native.Mathlib.Omega.{arith}
 use lib.Dec.{eqb, ltb, leb}
 use lib.ListN.{length}
-use borrow.Author.Tests.{le-ltb, le-leb, lt-leb, ltb-true, ltb-false, not-true, not-false}
+use borrow.Author.Tests.{le-leb, lt-leb, ltb-true, ltb-false, not-true, not-false}
 use Rattle.lists.proofs.Tests.{clash}
 use Rattle.graphs.specs.Nodes.{is_vertex}
 use Rattle.graphs.specs.Image.{Image}
 use Rattle.graphs.specs.ArrayForm.{ArrayForm}
 use Rattle.graphs.specs.Refusals.{Refusal, refuse, first_of, Lent, lent, short, sizes_out, vertex_out, first_out, tail_out, size_refusals, image_areas, image_refusals, blank_refusals, image_number, search_number, array_areas, array_refusals, array_number, array_search_number}
 use Rattle.graphs.proofs.Refusals.{first-front, first_rest, first-true, first-false, sizes-numbered}
-use Rattle.walks.specs.Promises.{array_walk_number}
+use Rattle.walks.specs.Promises.{written_areas, array_walk_number}
 
 -- The conditions of the checker alone, and of a query.
 abbrev image_checks : Image → List Refusal
@@ -132,11 +132,26 @@ module _ (g : Image) (before : List ℕ) (start : ℕ) (areas : List Lent) (c : 
   unfolding image_number
   search-list e z = sym (checked ∙ first_rest (image_checks g) (blank_refusals g.n before start) (omega arith) (sym e ∙ z))
 
+-- Past the sizes: an area of the array form, or one of the walk's own, gives the number.
+module _ (a : ArrayForm) (before : List ℕ) (start : ℕ) (areas : List Lent) (sized : 0 ≡ first_of (sizes_out a.n a.m)) where
+  abbrev array-rest : List Refusal
+  array-rest = refuse 4 (vertex_out a.n start) ∷ (array_refusals a ++ blank_refusals a.n before start)
+
+  past-array-sizes : first_of (refuse 3 (short (array_areas a ++ areas)) ∷ array-rest) ≡ array_search_number a before start areas
+  unfolding array_search_number
+  past-array-sizes = sym (first_rest (sizes_out a.n a.m) (refuse 3 (short (array_areas a ++ areas)) ∷ array-rest) (sizes-numbered a.n a.m) (sym sized))
+
+  pub array-short : short (array_areas a) ≡ true → 3 ≡ array_search_number a before start areas
+  array-short h = first-true array-rest (areas-short areas (array_areas a) h) ∙ past-array-sizes
+
+  pub array-own : short (array_areas a) ≡ false → short areas ≡ true → 3 ≡ array_search_number a before start areas
+  array-own long h = first-true array-rest (sym (areas-long areas (array_areas a) long) ∙ h) ∙ past-array-sizes
+
 -- The number of a query for the start, and past it that of the list.
-module _ (a : ArrayForm) (before : List ℕ) (start : ℕ) (marks increments events : List ℕ) (p : a.n + a.m ≤ length marks) (q : 6 * (a.n + a.m) ≤ length events) (r : a.n ≤ length increments) where
+module _ (a : ArrayForm) (before : List ℕ) (start : ℕ) (marks increments events : List ℕ) (c : short (written_areas (a.n + a.m) marks events ++ lent a.n increments ∷ []) ≡ false) where
   queried : array_walk_number a before start marks increments events ≡ first_of (array_checks a start ++ blank_refusals a.n before start)
   unfolding array_search_number
-  queried = rw (le-ltb (length marks) (a.n + a.m) p, le-ltb (length events) (6 * (a.n + a.m)) q, le-ltb (length increments) a.n r)
+  queried = rw c
 
   pub array-first : {k : ℕ} → k ≡ array_number a start [] → k ≢ 0 → k ≡ array_walk_number a before start marks increments events
   unfolding array_number

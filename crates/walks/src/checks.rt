@@ -4,9 +4,11 @@ ghost use Rattle.std.specs.Prelude.{◌≡◌, not, ◌&&◌, List, ◌*◌, ◌
 ghost use Rattle.graphs.specs.Refusals.{Lent, short, first_of, blank_refusals, search_number};
 ghost use Rattle.refusals.specs.Numbers.{number_in};
 ghost use Rattle.images.specs.Checking.{image_of};
-ghost use Rattle.walks.specs.Promises.{walk_number};
+ghost use Rattle.arrays.specs.Arrays.{form_of};
+ghost use Rattle.walks.specs.Promises.{walk_number, array_walk_number};
 
 use crate::listed::{is_listed, rises};
+use arrays::{ArrayForm, check_query};
 use images::{Image, Vertex, check_image, check_sizes, is_vertex};
 use refusals::Refusal;
 
@@ -62,4 +64,28 @@ pub fn check_walk(
 {
     let all = are_long(g.nodes(), marks.len(), events.len(), long);
     check_search(g, before, start, all)
+}
+
+// The tests before a walk of an array form: besides, n increments.
+pub fn check_array_walk(
+    a: &ArrayForm,
+    before: &[u16],
+    start: Vertex,
+    marks: &[u16],
+    increments: &[u16],
+    events: &[u16],
+) -> Result<(), Refusal>
+    ensures { number_in result ≡ array_walk_number (form_of a.now) before.now start.0 marks.now increments.now events.now }
+{
+    check_sizes(a.n, a.m)?;
+    if !a.is_long() {
+        return Err(Refusal::Area);
+    }
+    let nodes = a.n as usize + a.m as usize;
+    let own = a.n as usize <= increments.len();
+    if !are_long(nodes, marks.len(), events.len(), own) {
+        return Err(Refusal::Area);
+    }
+    check_query(a, start)?;
+    check_list(a.n, before, start)
 }

@@ -8,7 +8,7 @@ mod kinds;
 mod listed;
 mod write;
 
-pub use checks::{check_search, check_walk};
+pub use checks::{check_array_walk, check_search, check_walk};
 pub use kinds::Kind;
 pub use listed::{is_listed, rises};
 pub use write::{begin, clear, emit, label, mark_blanks};
