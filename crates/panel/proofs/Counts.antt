@@ -14,8 +14,8 @@ use Rattle.folding.specs.Calls.{accept_number}
 use Rattle.states.specs.declared.values.State.{State}
 use Rattle.states.specs.Answers.{config_of}
 use Rattle.panel.specs.declared.Panel.{Panel}
-use Rattle.panel.specs.declared.Accepted.{Accepted}
-use Rattle.panel.specs.declared.Counted.{Counted}
+use Rattle.panel.specs.Panel.{Accepted}
+use Rattle.panel.specs.Panel.{Counted}
 use Rattle.panel.specs.Panel.{counted_by, accepted_of}
 use Rattle.panel.specs.Claims.{Entry, accepting, shifting, left, EntryKept, Kept, left_by, is_shift, is_card, has_shift, since_shift, cards, CountClaim}
 use Rattle.panel.proofs.Judged.{left-refused, left-taken}

@@ -20,7 +20,7 @@ use Rattle.states.specs.Answers.{config_of}
 use Rattle.walkers.specs.TwoLines.{Account, LineA, words_a, LineB, account_b, account_of}
 use Rattle.walkers.proofs.Lines.{opened-zero, tie, line-a}
 use Rattle.panel.specs.declared.Panel.{Panel}
-use Rattle.panel.specs.declared.Accepted.{Accepted}
+use Rattle.panel.specs.Panel.{Accepted}
 use Rattle.panel.specs.Panel.{AcceptPromise}
 use Rattle.panel.specs.Claims.{Entry, accepting, shifting, left, EntryKept, Kept, is_shift, is_card, has_shift, since_shift}
 use Rattle.panel.specs.GoodCards.{Has, Whole, Judged, NotAgain, GoodCardClaim, Good, AllGood, GoodCountClaim}

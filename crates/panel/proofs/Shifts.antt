@@ -5,7 +5,7 @@ use mathlib.Core.Logic.{◌≢◌}
 use Prim.Native.Nat.{ℕ, zero, suc}
 use Rattle.states.specs.declared.values.State.{State}
 use Rattle.panel.specs.declared.Panel.{Panel}
-use Rattle.panel.specs.declared.ShiftEnded.{ShiftEnded}
+use Rattle.panel.specs.Panel.{ShiftEnded}
 use Rattle.panel.specs.Panel.{accepted_of, fresh_after, shift_ended, shift_closed}
 use Rattle.panel.proofs.Counts.{refused-keeps}
 

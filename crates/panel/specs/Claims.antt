@@ -5,7 +5,7 @@ use Rattle.std.specs.Prelude.{◌≡◌, ◌⊎◌, Bool, true, false, cond, ◌
 use Rattle.lists.specs.Counts.{bump}
 use Rattle.states.specs.declared.values.State.{State}
 use Rattle.panel.specs.declared.Panel.{Panel}
-use Rattle.panel.specs.declared.Accepted.{Accepted}
+use Rattle.panel.specs.Panel.{Accepted}
 use Rattle.panel.specs.Panel.{new_panel, AcceptPromise, ShiftPromise}
 
 -- Accepting a state, with its answer and the record it left; a shift start, with the record it left.

@@ -8,7 +8,7 @@ use Rattle.states.specs.declared.values.State.{State}
 use Rattle.states.specs.Answers.{config_of}
 use Rattle.walkers.specs.TwoLines.{Account, LineA, words_a, LineB, account_b}
 use Rattle.panel.specs.declared.Panel.{Panel}
-use Rattle.panel.specs.declared.Accepted.{Accepted}
+use Rattle.panel.specs.Panel.{Accepted}
 use Rattle.panel.specs.Panel.{AcceptPromise}
 use Rattle.panel.specs.Claims.{Entry, accepting, shifting, is_card, since_shift, cards, Kept, Counting, left_by}
 

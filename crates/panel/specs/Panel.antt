@@ -1,13 +1,45 @@
 -- The panel (document 01, "The panel"): a new record, accepting a state, a shift start.
-use Rattle.std.specs.Prelude.{◌≡◌, [], ℕ, zero, suc}
+use Rattle.std.specs.Prelude.{◌≡◌, [], ℕ, zero, suc, Result, Ok, Err}
 use Rattle.folding.specs.Machine.{accepted}
 use Rattle.folding.specs.Calls.{accept_number}
 use Rattle.states.specs.declared.values.State.{State}
 use Rattle.states.specs.Answers.{config_of}
 use Rattle.panel.specs.declared.Panel.{Panel}
-use Rattle.panel.specs.declared.Accepted.{Accepted}
-use Rattle.panel.specs.declared.Counted.{Counted}
-use Rattle.panel.specs.declared.ShiftEnded.{ShiftEnded}
+use Rattle.panel.specs.declared.Counted as code
+use Rattle.panel.specs.declared.ShiftEnded as ended
+use Rattle.refusals.specs.declared.Refusal.{Refusal}
+use Rattle.refusals.specs.Numbers.{number_of}
+
+-- ---- answers
+-- The answer to accepting: its number, 0 where it is taken, and the state.
+pub record Accepted : Type 0 where
+  pub number : ℕ
+  pub state : State
+
+-- The record and the answer, by value.
+pub record Counted : Type 0 where
+  pub panel : Panel
+  pub answer : Accepted
+
+-- The answer to the last card of a shift, the figure of the shift that ends, and the figure of the next one.
+pub record ShiftEnded : Type 0 where
+  pub answer : Accepted
+  pub figure : ℕ
+  pub fresh : ℕ
+
+-- What the code tells: where a state is refused, it and the record are as they were.
+abbrev pub accepted_as : State → Result State Refusal → Accepted
+accepted_as s (Ok t) = record { number = 0; state = t }
+accepted_as s (Err r) = record { number = number_of r; state = s }
+
+abbrev pub counted_as : Panel → State → Result code.Counted Refusal → Counted
+counted_as p s (Ok c) = record { panel = c.panel; answer = record { number = 0; state = c.state } }
+counted_as p s (Err r) = record { panel = p; answer = record { number = number_of r; state = s } }
+
+abbrev pub ended_as : State → ended.ShiftEnded → ShiftEnded
+ended_as s t = record { answer = accepted_as s t.answer; figure = t.figure; fresh = t.fresh }
+
+-- ---- the calls
 
 -- A new record.
 abbrev pub new_panel : Panel

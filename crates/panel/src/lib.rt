@@ -6,10 +6,12 @@
 
 ghost use Rattle.std.specs.Prelude.{◌≡◌, []};
 ghost use Rattle.folding.specs.Calls.{accept_number};
+ghost use Rattle.refusals.specs.Numbers.{number_in};
 ghost use Rattle.states.specs.Answers.{config_of};
-ghost use Rattle.panel.specs.Panel.{new_panel, accepted_of, shifted_of, AcceptPromise, ShiftPromise, shift_ended, shift_closed};
+ghost use Rattle.panel.specs.Panel.{new_panel, accepted_as, counted_as, ended_as, accepted_of, shifted_of, AcceptPromise, ShiftPromise, shift_ended, shift_closed};
 
-use walkers::{State, state_number};
+use refusals::Refusal;
+use walkers::{Phase, State, check_state};
 
 // How many cards were accepted since the last shift start.
 #[derive(Clone, Copy)]
@@ -17,24 +19,17 @@ pub struct Panel {
     pub figure: u32,
 }
 
-// The answer to accepting: its number, 0 where it is taken, and the state.
-#[derive(Clone, Copy)]
-pub struct Accepted {
-    pub number: u16,
-    pub state: State,
-}
-
-// The record and the answer, by value.
+// The record and the state that accepting leaves, by value.
 #[derive(Clone, Copy)]
 pub struct Counted {
     pub panel: Panel,
-    pub answer: Accepted,
+    pub state: State,
 }
 
 // The answer to the last card of a shift, the figure of the shift that ends, and the figure of the next one.
 #[derive(Clone, Copy)]
 pub struct ShiftEnded {
-    pub answer: Accepted,
+    pub answer: Result<State, Refusal>,
     pub figure: u32,
     pub fresh: u32,
 }
@@ -46,54 +41,40 @@ pub fn new_panel() -> Panel
     Panel { figure: 0 }
 }
 
-// The number of accepting a state, else 0: 1, 2, 4, 8, then 9 in phase 5 or 6, 10 in phase 1, 2 or 4, then 11.
-fn accept_number(s: State, figure: u32) -> u16
-    ensures { result ≡ accept_number (config_of s [] [] []) figure }
+// The tests before a state is accepted: 1, 2, 4, 8, then 9 in phase 5 or 6, 10 in phase 1, 2 or 4, then 11.
+fn check_card(s: State, figure: u32) -> Result<(), Refusal>
+    ensures { number_in result ≡ accept_number (config_of s [] [] []) figure }
 {
-    let k = state_number(s, true);
-    if k != 0 {
-        return k;
-    }
+    check_state(s, true)?;
     let p = s.phase;
-    if p == 5 {
-        return 9;
+    if p == Phase::RolledBack as u16 {
+        return Err(Refusal::Over);
     }
-    if p == 6 {
-        return 9;
+    if p == Phase::Accepted as u16 {
+        return Err(Refusal::Over);
     }
-    if p != 3 {
-        return 10;
+    if p != Phase::Finished as u16 {
+        return Err(Refusal::Unfinished);
     }
     if figure >= 999999 {
-        return 11;
+        return Err(Refusal::Figure);
     }
-    0
+    Ok(())
 }
 
 // Accepts a state, by value: where it is taken, the figure is one more and the phase is 6; else nothing changes.
-pub fn count_card(p: Panel, s: State) -> Counted
-    ensures { result ≡ accepted_of p s }
+pub fn count_card(p: Panel, s: State) -> Result<Counted, Refusal>
+    ensures { counted_as p s result ≡ accepted_of p s }
 {
     let figure = p.figure;
-    let k = accept_number(s, figure);
-    if k != 0 {
-        return Counted {
-            panel: p,
-            answer: Accepted {
-                number: k,
-                state: s,
-            },
-        };
-    }
-    let mut t = s;
-    t.phase = 6;
-    Counted {
+    check_card(s, figure)?;
+    Ok(Counted {
         panel: Panel { figure: figure + 1 },
-        answer: Accepted {
-            number: 0,
-            state: t,
+        state: State {
+            phase: Phase::Accepted as u16,
+            ..s
         },
-    }
+    })
 }
 
 // A shift start, by value.
@@ -106,12 +87,12 @@ pub fn shifted(p: Panel) -> Panel
 }
 
 // Accepts a state: refused by 1, 2, 4, 8, 9, 10, 11, and then neither state nor figure changes. It is lent no links, marks or events.
-pub fn accept(p: &mut Panel, s: State) -> Accepted
-    ensures { AcceptPromise p.old s result p.new }
+pub fn accept(p: &mut Panel, s: State) -> Result<State, Refusal>
+    ensures { AcceptPromise p.old s (accepted_as s result) p.new }
 {
-    let t = count_card(*p, s);
+    let t = count_card(*p, s)?;
     *p = t.panel;
-    t.answer
+    Ok(t.state)
 }
 
 // Starts a shift; it is never refused.
@@ -123,14 +104,14 @@ pub fn shift_start(p: &mut Panel)
 
 // Accepts a state on a record with this figure, reads the figure off and starts the next shift, whatever was answered.
 fn close_shift(figure: u32, s: State) -> ShiftEnded
-    ensures { result ≡ shift_closed figure s }
+    ensures { ended_as s result ≡ shift_closed figure s }
 {
-    let mut p = Panel { figure: figure };
-    let a = accept(&mut p, s);
+    let mut p = Panel { figure };
+    let answer = accept(&mut p, s);
     let total = p.figure;
     shift_start(&mut p);
     ShiftEnded {
-        answer: a,
+        answer,
         figure: total,
         fresh: p.figure,
     }
@@ -139,16 +120,15 @@ fn close_shift(figure: u32, s: State) -> ShiftEnded
 // The last card of a shift: accepts a state on a record with this figure, reads the figure off and starts the next shift. Refused by 1, 2, 4,
 // 8, 9, 10, 11: then no shift ends, and the figure is given back as it was.
 pub fn end_shift(figure: u32, s: State) -> ShiftEnded
-    ensures { result ≡ shift_ended figure s }
+    ensures { ended_as s result ≡ shift_ended figure s }
 {
     let t = close_shift(figure, s);
-    let a = t.answer;
-    if a.number == 0 {
-        return t;
-    }
-    ShiftEnded {
-        answer: a,
-        figure: figure,
-        fresh: figure,
+    match t.answer {
+        Ok(_) => t,
+        Err(refusal) => ShiftEnded {
+            answer: Err(refusal),
+            figure: figure,
+            fresh: figure,
+        },
     }
 }

@@ -6,15 +6,20 @@ ghost use Rattle.graphs.specs.Refusals.{image_number, unless_refused};
 ghost use Rattle.images.specs.Checking.{image};
 ghost use Rattle.arrays.specs.Arrays.{convert_number};
 ghost use Rattle.texts.specs.Loading.{reading, after_left, tail_left};
-ghost use Rattle.report.specs.Report.{report_of, told, line_number, line_bytes, line_left};
+ghost use Rattle.report.specs.Report.{report_of, telling, line_number, line_bytes, line_left};
 ghost use Rattle.text_words.specs.Told.{sized, handed_sizes, word_unless, told_in};
+
+use arrays::to_array;
+use images::{Image, check_image};
+use refusals::number;
 
 // `images::check_image`.
 #[unsafe(no_mangle)]
 pub extern "C" fn profile_walker_check_image(n: u16, m: u16, after: &[u16], tail: &[u16]) -> u16
     ensures { result ≡ image_number (image n m after.now tail.now) [] }
 {
-    images::check_image(n, m, after, tail)
+    let g = Image { n, m, after, tail };
+    number(check_image(&g))
 }
 
 // `arrays::to_array`.
@@ -33,7 +38,8 @@ pub extern "C" fn profile_walker_to_array(
     ensures tails { tails.new ≡ unless_refused result (overlay (array_of (image n m after.now tail.now)).tails tails.old) tails.old }
     ensures numbers { numbers.new ≡ unless_refused result (overlay (numbers_of (image n m after.now tail.now)) numbers.old) numbers.old }
 {
-    arrays::to_array(n, m, after, tail, firsts, tails, numbers)
+    let g = Image { n, m, after, tail };
+    number(to_array(&g, firsts, tails, numbers))
 }
 
 // `text_words::read_profile_in_words`.
@@ -64,7 +70,7 @@ pub extern "C" fn profile_walker_walk_text(
     output: &mut [u8],
     printed: &mut usize,
 ) -> u16
-    ensures { told (record { number = result; bytes = printed.new }) after.new tail.new marks.new events.new output.new ≡ told_in printed.old (report_of text.now after.old tail.old marks.old events.old output.old) }
+    ensures { telling result printed.new after.new tail.new marks.new events.new output.new ≡ told_in printed.old (report_of text.now after.old tail.old marks.old events.old output.old) }
 {
     text_words::walk_text_in_words(text, after, tail, marks, events, output, printed)
 }

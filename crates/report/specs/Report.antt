@@ -1,5 +1,5 @@
 -- From the bytes of a profile's text to the bytes that `walk` prints: when the text is refused, and what is left in the lent areas.
-use Rattle.std.specs.Prelude.{cond, List, [], ◌∷◌, ◌++◌, ℕ, suc, ◌+◌, length}
+use Rattle.std.specs.Prelude.{cond, List, [], ◌∷◌, ◌++◌, ℕ, suc, ◌+◌, length, Result, Ok, Err}
 use Rattle.std.proofs.Math.Option.{Option, none, some}
 use Rattle.lists.specs.Words.{at, overlay}
 use Rattle.graphs.specs.Graph.{Graph}
@@ -9,7 +9,8 @@ use Rattle.graphs.specs.Refusals.{refuse, first_of, unless_refused, Lent, lent, 
 use Rattle.graphs.specs.Results.{marks_left, events_left}
 use Rattle.texts.specs.Text.{Listing, listing_of}
 use Rattle.texts.specs.Loading.{Reading, refused, loaded, decided, edges_from, after_of, tail_of, lines_out}
-use Rattle.report.specs.declared.text.Report.{Report}
+use Rattle.refusals.specs.declared.Refusal.{Refusal}
+use Rattle.refusals.specs.Numbers.{number_in}
 use Rattle.report.specs.Printed.{walk_printed, refusal_printed}
 
 -- The graph that a text says: the list of u has the edges of the value lines from u, in line order; the k-th value line is edge n + k, which
@@ -62,9 +63,18 @@ reported (loaded p) after tail marks events output =
 unfoldable pub report_of : (text after tail marks events output : List ℕ) → Told
 report_of text after tail marks events output = reported (walk_reading (lent_areas after tail marks events output) text) after tail marks events output
 
--- What is seen of the code's answer, with the areas as the call leaves them.
-abbrev pub told : Report → (after tail marks events output : List ℕ) → Told
-told r after tail marks events output = record { number = r.number; bytes = r.bytes; output = output; after = after; tail = tail; marks = marks; events = events }
+-- How many bytes the code prints: none where it is refused.
+abbrev pub bytes_in : Result ℕ Refusal → ℕ
+bytes_in (Ok k) = k
+bytes_in (Err r) = 0
+
+-- What is seen of a number and of how many bytes are printed, with the areas as a call leaves them.
+abbrev pub telling : (number bytes : ℕ) → (after tail marks events output : List ℕ) → Told
+telling number bytes after tail marks events output = record { number = number; bytes = bytes; output = output; after = after; tail = tail; marks = marks; events = events }
+
+-- What is seen of the code's answer.
+abbrev pub told : Result ℕ Refusal → (after tail marks events output : List ℕ) → Told
+told r after tail marks events output = telling (number_in r) (bytes_in r) after tail marks events output
 
 -- ---- the line of a refusal
 -- The number of the call that prints the line of number k: 3 where the area is shorter than the line.

@@ -6,4 +6,4 @@ mod text;
 mod walk;
 
 pub use lines::refusal_line;
-pub use text::{Report, walk_text};
+pub use text::walk_text;

@@ -2,13 +2,14 @@
 ghost use Rattle.std.specs.Prelude.{◌≡◌, [], ◌∷◌, ◌++◌, ◌+◌, ◌*◌, ◌≤◌, length, take};
 ghost use Rattle.lists.specs.Words.{overlay, pasted};
 ghost use Rattle.numbers.specs.Decimal.{written};
+ghost use Rattle.refusals.specs.Numbers.{number_in};
 ghost use Rattle.texts.specs.Text.{row};
-ghost use Rattle.report.specs.Report.{line_number, line_bytes, line_left};
+ghost use Rattle.report.specs.Report.{line_number, line_bytes, line_left, bytes_in};
 ghost use Rattle.report.specs.Inside.{rows, printed_from};
 
-use crate::text::Report;
 use crate::walk::Totals;
 use numbers::write_number;
+use refusals::Refusal;
 
 // Writes bytes from place at on, and gives the place past them.
 fn write_bytes(bytes: &[u8], output: &mut [u8], at: usize) -> usize
@@ -16,12 +17,9 @@ fn write_bytes(bytes: &[u8], output: &mut [u8], at: usize) -> usize
     ensures next { result ≡ at + length bytes.now }
     ensures words { output.new ≡ pasted at bytes.now output.old }
 {
-    let mut i: usize = 0;
-    while i < bytes.len() {
-        output[at + i] = bytes[i];
-        i += 1;
-    }
-    at + i
+    let next = at + bytes.len();
+    output[at..next].copy_from_slice(bytes);
+    next
 }
 
 // Writes a number and the byte stop behind it from place at on, and gives the place past them.
@@ -43,9 +41,9 @@ fn write_row(a: u16, b: u16, c: u16, output: &mut [u8], at: usize) -> usize
     ensures next { result ≡ at + length (row (a ∷ b ∷ c ∷ [])) }
     ensures words { output.new ≡ pasted at (row (a ∷ b ∷ c ∷ [])) output.old }
 {
-    let p = write_field(a, 44, output, at);
-    let q = write_field(b, 44, output, p);
-    write_field(c, 10, output, q)
+    let p = write_field(a, b',', output, at);
+    let q = write_field(b, b',', output, p);
+    write_field(c, b'\n', output, q)
 }
 
 // Writes the lines of the first `made` events from place at on, and gives the place past them.
@@ -56,11 +54,8 @@ fn write_rows(events: &[u16], made: usize, output: &mut [u8], at: usize) -> usiz
     ensures words { output.new ≡ pasted at (rows (take (3 * made) events.now)) output.old }
 {
     let mut p = at;
-    let mut i: usize = 0;
-    while i < made {
-        let k = 3 * i;
-        p = write_row(events[k], events[k + 1], events[k + 2], output, p);
-        i += 1;
+    for event in events[..3 * made].chunks_exact(3) {
+        p = write_row(event[0], event[1], event[2], output, p);
     }
     p
 }
@@ -79,20 +74,16 @@ pub(crate) fn print_walk(t: Totals, events: &[u16], output: &mut [u8]) -> usize
 
 // Prints the line of a refusal: `refused,`, its number and a line feed, at the front of the output area. It is made aside, so that it is written
 // whole or, refused by 3 where the area is shorter than the line, not at all.
-pub fn refusal_line(number: u16, output: &mut [u8]) -> Report
-    ensures number { result.number ≡ line_number number output.old }
-    ensures bytes { result.bytes ≡ line_bytes number output.old }
+pub fn refusal_line(number: u16, output: &mut [u8]) -> Result<usize, Refusal>
+    ensures number { number_in result ≡ line_number number output.old }
+    ensures bytes { bytes_in result ≡ line_bytes number output.old }
     ensures output { output.new ≡ line_left number output.old }
 {
     let mut line: [u8; 14] = [0; 14];
     let p = write_bytes(b"refused,", &mut line, 0);
-    let q = write_field(number, 10, &mut line, p);
+    let q = write_field(number, b'\n', &mut line, p);
     if output.len() < q {
-        return Report {
-            number: 3,
-            bytes: 0,
-        };
+        return Err(Refusal::Area);
     }
-    let bytes = write_bytes(&line[..q], output, 0);
-    Report { number: 0, bytes }
+    Ok(write_bytes(&line[..q], output, 0))
 }

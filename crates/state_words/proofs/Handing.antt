@@ -14,7 +14,7 @@ use Rattle.states.specs.declared.values.Answer.{Answer}
 use Rattle.states.specs.declared.values.Answer.TheVariants as answer
 use Rattle.states.specs.Answers.{answer_of, config_of, Seen, seen_of}
 use Rattle.panel.specs.declared.Panel.{Panel}
-use Rattle.panel.specs.declared.Counted.{Counted}
+use Rattle.panel.specs.Panel.{Counted}
 use Rattle.panel.specs.Panel.{counted_by, accepted_of}
 use Rattle.state_words.specs.Handed.{state_in, config_words, reason_number, reason_in, served_in, Handed, handing, handed_by, handed, accepted_in}
 

@@ -7,7 +7,7 @@ use Rattle.folding.specs.Machine.{Config}
 use Rattle.folding.specs.Calls.{Reason, ended, spent, stuck, Answer, ran, taken, refused, Reply, refusing, Call, area_of, serve}
 use Rattle.states.specs.declared.values.State.{State}
 use Rattle.states.specs.Answers.{config_of}
-use Rattle.panel.specs.declared.Counted.{Counted}
+use Rattle.panel.specs.Panel.{Counted}
 use Rattle.panel.specs.Panel.{counted_by, accepted_of}
 
 -- ---- a state in nine words: n, m, start, v, e, f, phase, next, circular

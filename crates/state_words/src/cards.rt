@@ -17,18 +17,15 @@ pub fn accept_in_words(state: &mut [u16], figure: &mut u32) -> u16
     if state.len() < 9 {
         return 3;
     }
-    let s = read_state(state);
     let p = Panel { figure: *figure };
-    let c = count_card(p, s);
-    let a = c.answer;
-    let k = a.number;
-    if k != 0 {
-        return k;
+    match count_card(p, read_state(state)) {
+        Err(refusal) => refusal.number(),
+        Ok(c) => {
+            *figure = c.panel.figure;
+            write_state(c.state, state);
+            0
+        }
     }
-    *figure = c.panel.figure;
-    let t = a.state;
-    write_state(t, state);
-    0
 }
 
 // `panel::shift_start`.

@@ -8,10 +8,11 @@ ghost use Rattle.images.specs.Checking.{image};
 ghost use Rattle.states.specs.Answers.{told, seen_of};
 ghost use Rattle.state_words.specs.Handed.{config_words, open_number_in, served_in, handing, handed};
 
-use crate::words::{number_in, read_state, reason_in, write_state};
-use images::Vertex;
-use walkers::{Answer, Reply, open, roll_back, run, step};
-use walks::search_number;
+use crate::words::{read_state, reason_in, write_state};
+use images::{Image, Vertex};
+use refusals::{Refusal, number};
+use walkers::{Reply, open, roll_back, run, step};
+use walks::check_search;
 
 // `walkers::open`: the state is stored in nine lent words.
 pub fn open_in_words(
@@ -30,23 +31,22 @@ pub fn open_in_words(
     ensures marks { marks.new ≡ unless_refused result (opened_at (image n m after.now tail.now) before.now start marks.old).marks marks.old }
     ensures events { events.new ≡ unless_refused result (open_reply (image n m after.now tail.now) before.now start marks.old events.old).area events.old }
 {
+    let g = Image { n, m, after, tail };
     if state.len() < 9 {
-        return search_number(n, m, Vertex(start), after, tail, before, false);
+        return number(check_search(&g, before, Vertex(start), false));
     }
-    let r = open(n, m, Vertex(start), after, tail, before, marks, events);
-    let a = r.answer;
-    let k = number_in(a);
-    if k != 0 {
-        return k;
+    match open(&g, before, Vertex(start), marks, events) {
+        Err(refusal) => refusal.number(),
+        Ok(r) => {
+            write_state(r.state, state);
+            0
+        }
     }
-    let s = r.state;
-    write_state(s, state);
-    0
 }
 
 // Hands a reply back: of a call that is taken, the steps made, the events written, the reason and the state; of a refused one its number.
 fn hand_back(
-    r: Reply,
+    reply: Result<Reply, Refusal>,
     state: &mut [u16],
     steps: &mut u32,
     made: &mut usize,
@@ -55,16 +55,16 @@ fn hand_back(
     requires { 9 ≤ length state.old }
     ensures { (q : calls.Reply) (after tail marks area : List ℕ) → told r after tail marks area ≡ seen_of q → handing result steps.new made.new reason.new state.new after tail marks area ≡ handed q steps.old made.old reason.old state.old }
 {
-    let a = r.answer;
-    if let Answer::Refused(k) = a {
-        return k;
+    match reply {
+        Err(refusal) => refusal.number(),
+        Ok(r) => {
+            *steps = r.steps;
+            *made = r.events;
+            *reason = reason_in(r.why);
+            write_state(r.state, state);
+            0
+        }
     }
-    *steps = r.steps;
-    *made = r.events;
-    *reason = reason_in(a);
-    let s = r.state;
-    write_state(s, state);
-    0
 }
 
 // `walkers::step`: one step, and no reason.

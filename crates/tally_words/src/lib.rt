@@ -8,27 +8,31 @@ ghost use Rattle.graphs.specs.ArrayForm.{array_graph};
 ghost use Rattle.graphs.specs.Image.{graph_of};
 ghost use Rattle.graphs.specs.Refusals.{lent, unless_refused};
 ghost use Rattle.graphs.specs.Results.{parent_left, queue_left, increment_left};
+ghost use Rattle.refusals.specs.Numbers.{number_in};
 ghost use Rattle.images.specs.Checking.{image};
 ghost use Rattle.arrays.specs.Arrays.{array_in};
-ghost use Rattle.walks.specs.Promises.{depth_walk, breadth_walk, array_walk};
+ghost use Rattle.walks.specs.Promises.{walked_of, depth_walk, breadth_walk, array_walk};
 ghost use Rattle.tally_words.specs.Tallied.{DepthTallied, BreadthTallied, ArrayTallied};
 
-use images::Vertex;
+use arrays::ArrayForm;
+use images::{Image, Vertex};
+use refusals::{Refusal, number};
 use walkers::{bfs_folded, bfs_queue, dfs_array, dfs_parent, dfs_recursive};
-use walks::{array_walk_number, walk_number};
+use walks::{check_array_walk, check_walk};
 
-// Stores seven counts.
-fn write_tally(counts: [u32; 7], words: &mut [u32])
+// Hands a tally over in seven words; of a walk that is refused its number.
+fn hand_over(walk: Result<[u32; 7], Refusal>, words: &mut [u32]) -> u16
     requires { 7 ≤ length words.old }
-    ensures { words.new ≡ overlay counts words.old }
+    ensures number { result ≡ number_in walk }
+    ensures words { words.new ≡ unless_refused result (overlay (walked_of walk).tally words.old) words.old }
 {
-    words[0] = counts[0];
-    words[1] = counts[1];
-    words[2] = counts[2];
-    words[3] = counts[3];
-    words[4] = counts[4];
-    words[5] = counts[5];
-    words[6] = counts[6];
+    match walk {
+        Ok(tally) => {
+            words[..7].copy_from_slice(&tally);
+            0
+        }
+        Err(refusal) => refusal.number(),
+    }
 }
 
 // `walkers::dfs_recursive`.
@@ -46,27 +50,11 @@ pub fn dfs_recursive_in_words(
     ensures walk { DepthTallied (image n m after.now tail.now) before.now start []
         marks.old events.old counts.old result counts.new marks.new events.new }
 {
+    let g = Image { n, m, after, tail };
     if counts.len() < 7 {
-        return walk_number(
-            n,
-            m,
-            Vertex(start),
-            after,
-            tail,
-            before,
-            marks,
-            events,
-            false,
-        );
+        return number(check_walk(&g, before, Vertex(start), marks, events, false));
     }
-    let w = dfs_recursive(n, m, Vertex(start), after, tail, before, marks, events);
-    let k = w.number;
-    if k != 0 {
-        return k;
-    }
-    let t = w.tally;
-    write_tally(t, counts);
-    0
+    hand_over(dfs_recursive(&g, before, Vertex(start), marks, events), counts)
 }
 
 // `walkers::dfs_parent`.
@@ -87,37 +75,11 @@ pub fn dfs_parent_in_words(
     ensures parents { parents.new ≡ unless_refused result
         (parent_left (graph_of (image n m after.now tail.now)) (depth_walk (image n m after.now tail.now) before.now start) parents.old) parents.old }
 {
+    let g = Image { n, m, after, tail };
     if counts.len() < 7 {
-        return walk_number(
-            n,
-            m,
-            Vertex(start),
-            after,
-            tail,
-            before,
-            marks,
-            events,
-            false,
-        );
+        return number(check_walk(&g, before, Vertex(start), marks, events, false));
     }
-    let w = dfs_parent(
-        n,
-        m,
-        Vertex(start),
-        after,
-        tail,
-        before,
-        marks,
-        parents,
-        events,
-    );
-    let k = w.number;
-    if k != 0 {
-        return k;
-    }
-    let t = w.tally;
-    write_tally(t, counts);
-    0
+    hand_over(dfs_parent(&g, before, Vertex(start), marks, parents, events), counts)
 }
 
 // `walkers::dfs_array`.
@@ -140,36 +102,10 @@ pub fn dfs_array_in_words(
         (increment_left (array_graph (array_in n m firsts.now tails.old)) (array_walk (array_in n m firsts.now tails.old) before.now start) increments.old) increments.old }
 {
     if counts.len() < 7 {
-        return array_walk_number(
-            n,
-            m,
-            Vertex(start),
-            &firsts[0..0],
-            tails,
-            before,
-            marks,
-            increments,
-            events,
-        );
+        let a = ArrayForm { n, m, firsts: &[], tails };
+        return number(check_array_walk(&a, before, Vertex(start), marks, increments, events));
     }
-    let w = dfs_array(
-        n,
-        m,
-        Vertex(start),
-        firsts,
-        tails,
-        before,
-        marks,
-        increments,
-        events,
-    );
-    let k = w.number;
-    if k != 0 {
-        return k;
-    }
-    let t = w.tally;
-    write_tally(t, counts);
-    0
+    hand_over(dfs_array(n, m, firsts, tails, before, Vertex(start), marks, increments, events), counts)
 }
 
 // `walkers::bfs_queue`.
@@ -190,37 +126,11 @@ pub fn bfs_queue_in_words(
     ensures queue { queue.new ≡ unless_refused result
         (queue_left n (breadth_walk (image n m after.now tail.now) before.now start) queue.old) queue.old }
 {
+    let g = Image { n, m, after, tail };
     if counts.len() < 7 {
-        return walk_number(
-            n,
-            m,
-            Vertex(start),
-            after,
-            tail,
-            before,
-            marks,
-            events,
-            false,
-        );
+        return number(check_walk(&g, before, Vertex(start), marks, events, false));
     }
-    let w = bfs_queue(
-        n,
-        m,
-        Vertex(start),
-        after,
-        tail,
-        before,
-        marks,
-        queue,
-        events,
-    );
-    let k = w.number;
-    if k != 0 {
-        return k;
-    }
-    let t = w.tally;
-    write_tally(t, counts);
-    0
+    hand_over(bfs_queue(&g, before, Vertex(start), marks, queue, events), counts)
 }
 
 // `walkers::bfs_folded`.
@@ -240,24 +150,8 @@ pub fn bfs_folded_in_words(
     ensures after { after.new ≡ after.old }
 {
     if counts.len() < 7 {
-        return walk_number(
-            n,
-            m,
-            Vertex(start),
-            after,
-            tail,
-            before,
-            marks,
-            events,
-            false,
-        );
+        let g = Image { n, m, after, tail };
+        return number(check_walk(&g, before, Vertex(start), marks, events, false));
     }
-    let w = bfs_folded(n, m, Vertex(start), after, tail, before, marks, events);
-    let k = w.number;
-    if k != 0 {
-        return k;
-    }
-    let t = w.tally;
-    write_tally(t, counts);
-    0
+    hand_over(bfs_folded(n, m, after, tail, before, Vertex(start), marks, events), counts)
 }

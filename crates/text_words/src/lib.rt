@@ -4,11 +4,11 @@
 
 ghost use Rattle.std.specs.Prelude.{◌≡◌};
 ghost use Rattle.texts.specs.Loading.{reading, after_left, tail_left};
-ghost use Rattle.report.specs.Report.{report_of, told, line_number, line_bytes, line_left};
+ghost use Rattle.report.specs.Report.{report_of, telling, line_number, line_bytes, line_left};
 ghost use Rattle.text_words.specs.Told.{sized, handed_sizes, word_unless, told_in};
 
 use report::{refusal_line, walk_text};
-use texts::{Profile, read_profile};
+use texts::read_profile;
 
 // `texts::read_profile`: the sizes and the start of a profile loaded are stored in three lent words.
 pub fn read_profile_in_words(
@@ -24,15 +24,11 @@ pub fn read_profile_in_words(
     ensures tails { tail.new ≡ tail_left (reading text.now after.old tail.old) tail.old }
 {
     match read_profile(text, after, tail) {
-        Profile::Refused(k) => k,
-        Profile::Loaded {
-            n: vertices,
-            m: edges,
-            start: first,
-        } => {
-            *n = vertices;
-            *m = edges;
-            *start = first.0;
+        Err(refusal) => refusal.number(),
+        Ok(profile) => {
+            *n = profile.n;
+            *m = profile.m;
+            *start = profile.start.0;
             0
         }
     }
@@ -48,15 +44,15 @@ pub fn walk_text_in_words(
     output: &mut [u8],
     printed: &mut usize,
 ) -> u16
-    ensures { told (record { number = result; bytes = printed.new }) after.new tail.new marks.new events.new output.new ≡ told_in printed.old (report_of text.now after.old tail.old marks.old events.old output.old) }
+    ensures { telling result printed.new after.new tail.new marks.new events.new output.new ≡ told_in printed.old (report_of text.now after.old tail.old marks.old events.old output.old) }
 {
-    let r = walk_text(text, after, tail, marks, events, output);
-    let k = r.number;
-    if k != 0 {
-        return k;
+    match walk_text(text, after, tail, marks, events, output) {
+        Err(refusal) => refusal.number(),
+        Ok(bytes) => {
+            *printed = bytes;
+            0
+        }
     }
-    *printed = r.bytes;
-    0
 }
 
 // `report::refusal_line`: how many bytes are printed is stored in a lent word, where there is room for the line.
@@ -65,11 +61,11 @@ pub fn refusal_line_in_words(number: u16, output: &mut [u8], printed: &mut usize
     ensures printed { printed.new ≡ word_unless result (line_bytes number output.old) printed.old }
     ensures output { output.new ≡ line_left number output.old }
 {
-    let l = refusal_line(number, output);
-    let k = l.number;
-    if k != 0 {
-        return k;
+    match refusal_line(number, output) {
+        Err(refusal) => refusal.number(),
+        Ok(bytes) => {
+            *printed = bytes;
+            0
+        }
     }
-    *printed = l.bytes;
-    0
 }

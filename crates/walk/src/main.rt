@@ -5,14 +5,15 @@
 ghost use Rattle.std.specs.Prelude.{◌≤◌, ◌<◌, length, take, IfOk};
 ghost use Rattle.std.specs.Io.KnownBytes.{Consumes, IsAtEnd};
 
+use refusals::Refusal;
 use std::io;
 use std::io::Read;
 
 // Prints the line of a refusal; 14 bytes have room for that of any number.
-fn print_refusal(rt: &impl Print, number: u16) -> io::Result<()> {
+fn print_refusal(rt: &impl Print, refusal: Refusal) -> io::Result<()> {
     let mut line = [0u8; 14];
-    let r = report::refusal_line(number, &mut line);
-    rt.write_all(&line[..r.bytes])
+    let bytes = report::refusal_line(refusal.number(), &mut line).unwrap();
+    rt.write_all(&line[..bytes])
 }
 
 // Prints the walk of a text, or its refusal.
@@ -22,7 +23,7 @@ fn print_walk(rt: &impl Print, text: &[u8]) -> io::Result<()> {
     let mut marks = [0u16; 5000];
     let mut events = [0u16; 54003];
     let mut output = [0u8; 180066];
-    let r = report::walk_text(
+    let printed = report::walk_text(
         text,
         &mut after,
         &mut tail,
@@ -30,10 +31,10 @@ fn print_walk(rt: &impl Print, text: &[u8]) -> io::Result<()> {
         &mut events,
         &mut output,
     );
-    if r.number != 0 {
-        return print_refusal(rt, r.number);
+    match printed {
+        Ok(bytes) => rt.write_all(&output[..bytes]),
+        Err(refusal) => print_refusal(rt, refusal),
     }
-    rt.write_all(&output[..r.bytes])
 }
 
 // Reads until the area is full or the input ends, and returns how many bytes were read: they stand at the area's start.

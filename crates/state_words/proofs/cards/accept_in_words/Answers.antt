@@ -3,7 +3,7 @@
 use mathlib.Core.Path.{refl, sym, ap, ◌∙◌}
 use Rattle.lists.specs.Words.{overlay}
 use Rattle.graphs.proofs.Refusals.{refused}
-use Rattle.panel.specs.declared.Counted.{Counted}
+use Rattle.panel.specs.Panel.{Counted}
 use Rattle.state_words.specs.Handed.{state_words}
 use Rattle.state_words.proofs.Handing.{accepted-short, counted-in, figure-kept}
 use Rattle.state_words.proofs.cards.accept_in_words.Goals as goal
