@@ -8,7 +8,7 @@ use native.Mathlib.Numerals.{add-one}
 use native.Mathlib.Omega.{arith}
 use lib.Dec.{eqb, leb}
 use lib.ListN.{length, get_or, take, drop}
-use borrow.Author.Tests.{eqb-true, leb-true, le-leb, lt-leb, not-false}
+use borrow.Author.Tests.{eqb-true, eq-eqb, ne_eqb, leb-true, le-leb, lt-leb, not-false}
 use Rattle.std.specs.Prelude.{Some}
 use Rattle.std.specs.Bool.{MatchBool}
 use Rattle.std.specs.List.{IsAllAdjacentAnswer}
@@ -23,7 +23,7 @@ use Rattle.lists.proofs.Counts.{all-at, all_of, all-fails}
 use Rattle.lists.proofs.Words.{read_at, word-here}
 use Rattle.graphs.specs.Nodes.{Vertex}
 use Rattle.graphs.specs.Image.{to}
-use Rattle.graphs.specs.ArrayForm.{ArrayForm, array_graph, array_left, numbers_left}
+use Rattle.graphs.specs.ArrayForm.{ArrayForm, is_ordered, array_graph, array_left, numbers_left}
 use Rattle.graphs.specs.Refusals.{refuse, vertex_out, first_out, tail_out, size_refusals, array_areas, array_number, lent, unless_refused}
 use Rattle.graphs.proofs.Nodes.{vertex-is}
 use Rattle.graphs.proofs.Refusals.{refused, all-false, long}
@@ -69,7 +69,7 @@ in-order a h =
     }
 
 -- The first n + 1 words never fall exactly where the first positions do not.
-pub sorted-rises : (a : ArrayForm) (r : Bool) → a.n + 1 ≤ length a.firsts → IsAllAdjacentAnswer (λ x y b. is_some_and is_le (Some (nat_cmp x y)) ≡ b) (take (a.n + 1) a.firsts) r → r ≡ all_to (rise a) a.n
+sorted-rises : (a : ArrayForm) (r : Bool) → a.n + 1 ≤ length a.firsts → IsAllAdjacentAnswer (λ x y b. is_some_and is_le (Some (nat_cmp x y)) ≡ b) (take (a.n + 1) a.firsts) r → r ≡ all_to (rise a) a.n
 sorted-rises a r h s = go r (non_decreasing_from_is_sorted (take (a.n + 1) a.firsts) r s)
   where
     words : List ℕ
@@ -92,13 +92,26 @@ sorted-rises a r h s = go r (non_decreasing_from_is_sorted (take (a.n + 1) a.fir
         let below : k + 1 < a.n + 1 = omega (arith, m.1, long-words) in
         sym (all-fails (rise a) a.n (suc k) (omega arith) (omega arith) (lt-leb (at 0 a.firsts (suc k)) (at 0 a.firsts (suc (suc k))) (omega (arith, here k (omega arith), next_word a.firsts k, get_or-take (a.n + 1) a.firsts (k + 1) 0 below, m.2 0))))
 
--- What the code tests of the first n + 1 words is the rule of first positions.
+-- What the first of the first n + 1 words, the last, and the neighbours say of the rule.
 module _ (a : ArrayForm) (h : a.n + 1 ≤ length a.firsts) where
-  pub begins : get_or (take (a.n + 1) a.firsts) 0 0 ≡ at 0 a.firsts 1
-  begins = get_or-take (a.n + 1) a.firsts 0 0 (omega arith) ∙ sym (word-here a.firsts 0)
+  rule : is_ordered a ≡ (eqb (get_or (take (a.n + 1) a.firsts) 0 0) 1 && (eqb (get_or (take (a.n + 1) a.firsts) a.n 0) (a.m + 1) && all_to (rise a) a.n))
+  rule =
+      let begin = word-here a.firsts 0 ∙ sym (get_or-take (a.n + 1) a.firsts 0 0 (omega arith)) in
+      let end = word-here a.firsts a.n ∙ sym (get_or-take (a.n + 1) a.firsts a.n 0 (omega arith)) in
+      (λ i. eqb (begin i) 1 && (eqb (end i) (sym (add-one a.m) i) && all_to (rise a) a.n))
 
-  pub ends : get_or (take (a.n + 1) a.firsts) a.n 0 ≡ at 0 a.firsts (suc a.n)
-  ends = get_or-take (a.n + 1) a.firsts a.n 0 (omega arith) ∙ sym (word-here a.firsts a.n)
+  pub wrong-begin : (get_or (take (a.n + 1) a.firsts) 0 0 ≡ 1 → ⊥) → false ≡ is_ordered a
+  wrong-begin ne = sym (rule ∙ rw (ne_eqb (get_or (take (a.n + 1) a.firsts) 0 0) 1 ne) refl)
+
+  module _ (one : get_or (take (a.n + 1) a.firsts) 0 0 ≡ 1) where
+    begun : is_ordered a ≡ (eqb (get_or (take (a.n + 1) a.firsts) a.n 0) (a.m + 1) && all_to (rise a) a.n)
+    begun = rule ∙ rw (eq-eqb (get_or (take (a.n + 1) a.firsts) 0 0) 1 one) refl
+
+    pub wrong-end : eqb (get_or (take (a.n + 1) a.firsts) a.n 0) (a.m + 1) ≡ false → false ≡ is_ordered a
+    wrong-end e = sym (begun ∙ rw e refl)
+
+    pub neighbours : eqb (get_or (take (a.n + 1) a.firsts) a.n 0) (a.m + 1) ≡ true → {r : Bool} → IsAllAdjacentAnswer (λ x y b. is_some_and is_le (Some (nat_cmp x y)) ≡ b) (take (a.n + 1) a.firsts) r → r ≡ is_ordered a
+    neighbours e {r} s = sorted-rises a r h s ∙ sym (begun ∙ rw e refl)
 
 -- ---- queries
 pub asked : (a : ArrayForm) (u : ℕ) → array_number a u [] ≡ 0 → Asked a u

@@ -1,3 +1,4 @@
--- Array forms: queries, converting.
+-- Array forms: queries, converting, what both are refused for.
 pub mod Arrays
 pub mod Grouping
+pub mod Refusing

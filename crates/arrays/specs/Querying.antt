@@ -2,8 +2,9 @@
 use Rattle.std.specs.Prelude.{ℕ, suc, ◌+◌, ◌-◌, ◌≤◌, ◌<◌, length, get_or}
 use Rattle.graphs.specs.ArrayForm.{ArrayForm}
 
--- Few edges, and as many first positions as stated.
+-- Sizes within the limits, and as many first positions as stated.
 pub record Bounded (a : ArrayForm) : Type 0 where
+  pub few_vertices : a.n ≤ 1000
   pub few_edges : a.m ≤ 4000
   pub long_firsts : a.n + 1 ≤ length a.firsts
 
