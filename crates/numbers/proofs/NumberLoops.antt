@@ -1,103 +1,104 @@
--- What the loops of the numbers' code keep: the value read so far, the digits put so far.
--- Each loop's step takes one digit, as the recursion of its definition does.
-use mathlib.Core.Path.{◌≡◌, refl, sym, ap, ◌∙◌}
-use mathlib.Core.Bool.{Bool, true, false, cond, ◌&&◌, and-false}
-use mathlib.Core.List.{List, [], ◌∷◌, ◌++◌, append-nil}
-use mathlib.Core.Option.{Option, none, some}
-use Prim.Native.Nat.{ℕ, suc, ◌+◌, ◌-◌, ◌*◌, ◌/◌, ◌%◌, ◌≤◌, ◌<◌}
-use native.Mathlib.Numerals.{add-one}
-use native.Mathlib.Omega.{arith}
-use lib.Dec.{leb}
-use lib.ListN.{length, drop, get_or, set, drop_of_length-le}
-use lib.Seq.{append_snoc, drop-cons}
-use borrow.Author.Tests.{lt-ltb, le-leb, lt-leb, leb-true, leb-false}
+-- What the loops of the numbers' code keep: the value of the digits read so far, the digits put so far.
+use Rattle.std.proofs.Common.{◌≡◌, refl, sym, ap, subst, ◌∙◌, true, false, cond, List, [], ◌∷◌, ◌++◌, append-nil, ℕ, zero, suc, ◌+◌, ◌-◌, ◌*◌, ◌/◌, ◌%◌, ◌^◌, ◌≤◌, ◌<◌, ◌⊎◌, inl, inr, leb, ltb, add-one, arith, length, take, drop, get_or, set, take_while, take_all, drop_of_length-le, lt-ltb, le-leb, slice_range, length-drop, Result, Ok, Err, Some, None, OkIff}
+use Rattle.std.specs.Result.{result_ok}
+use Rattle.std.proofs.Math.Option.{none, some}
+use mathlib.Core.Bool.{and-false}
+use borrow.Author.Tests.{lt-leb}
+use Rattle.std.proofs.lemmas.List.{take_more}
+use Rattle.std.proofs.lemmas.List.Sums.{take_while-cons}
+use Rattle.std.proofs.lemmas.List.Folds.{length-prefix_len}
+use native.Mathlib.Nat.{pow-succ', pow-le-pow_right}
+use lib.Seq.{append_snoc}
 use Rattle.lists.specs.Words.{pasted}
+use Rattle.lists.proofs.Tests.{and-true}
 use Rattle.lists.proofs.Words.{pasted-none, pasted-before}
-use Rattle.numbers.specs.Decimal.{decimal_length, digits, written, put_at, past_at, is_digit, digits_ahead, value_after, few, Field, field_of, number_at}
-use Rattle.numbers.proofs.Numbers.{length-claim, value_grows}
+use Rattle.numbers.specs.Decimal.{decimal_length, digits, written, put_at, past_at, is_digit, digits_ahead, value_after, few, in_form, field_of, number_at}
+use Rattle.numbers.proofs.Numbers.{length-claim, number-claim, number-here, value-append, Digit, AllDigits, ahead-all}
 
--- ---- a number read on
--- The digits from place i on.
-module _ (text : List ℕ) (i : ℕ) where
-  ahead-end : length text ≤ i → digits_ahead (drop i text) ≡ []
-  ahead-end h = ap digits_ahead (drop_of_length-le text h)
+-- ---- a number read
+-- The digits that a text begins with are its first so many bytes.
+ahead-taken : (l : List ℕ) → digits_ahead l ≡ take_while is_digit l
+ahead-taken [] = refl
+ahead-taken (b ∷ l) = ap (λ (r : List ℕ). cond (is_digit b) (b ∷ r) []) (ahead-taken l) ∙ sym (take_while-cons is_digit b l)
 
-  ahead_none : i < length text → is_digit (get_or text i 0) ≡ false → digits_ahead (drop i text) ≡ []
-  ahead_none h t = rw (drop-cons text i 0 h, t)
+digit-at : (ds : List ℕ) (i : ℕ) → AllDigits ds → i < length ds → Digit (get_or ds i 0)
+digit-at [] i p h = absurd (omega arith)
+digit-at (d ∷ ds) zero p h = p.0
+digit-at (d ∷ ds) (suc i) p h = digit-at ds i p.1 (omega arith)
 
-  ahead-one : i < length text → is_digit (get_or text i 0) ≡ true → digits_ahead (drop i text) ≡ get_or text i 0 ∷ digits_ahead (drop (i + 1) text)
-  ahead-one h t = rw (add-one i, drop-cons text i 0 h, t)
+-- The value of the first i digits, which is below the i-th power of ten.
+pub record Value (ds : List ℕ) (i value : ℕ) : Type 0 where
+  pub is : value ≡ value_after 0 (take i ds)
+  pub below : value < 10 ^ i
 
--- A digit and those behind it are five at most if they end within five digits of its place.
-few-from : (at d : ℕ) (ds : List ℕ) → few (d ∷ ds) ≡ leb (at + 1 + length ds) (at + 5)
-few-from at d ds = rw (lt-ltb 0 (suc (length ds)) (omega arith)) (go (leb (suc (length ds)) 5) refl)
-  where
-    go : (t : Bool) → leb (suc (length ds)) 5 ≡ t → t ≡ leb (at + 1 + length ds) (at + 5)
-    go true e = let h = leb-true (suc (length ds)) 5 e in sym (le-leb (at + 1 + length ds) (at + 5) (omega arith))
-    go false e = let h = leb-false (suc (length ds)) 5 e in sym (lt-leb (at + 1 + length ds) (at + 5) (omega arith))
+-- The bytes behind place `at`, and how many of them, from the first on, are digits.
+pub record Ahead (text : List ℕ) (at : ℕ) (rest : List ℕ) (count : ℕ) : Type 0 where
+  pub behind : rest ≡ drop at text
+  pub number : count ≡ length (take_while is_digit rest)
 
--- The number of value v up to place i, with these digits behind it, if they end within five digits of place `at`.
-abbrev onward : ℕ → ℕ → ℕ → List ℕ → Option Field
-onward at v i ds = cond (leb (i + length ds) (at + 5) && leb (value_after v ds) 65535) (some (record { value = value_after v ds; next = i + length ds })) none
+pub ahead-of : {text rest : List ℕ} {at count : ℕ} → rest ≡ slice_range text at (length text) → count ≡ length (take_while is_digit rest) → Ahead text at rest count
+ahead-of {text} {rest} {at} e n = record { behind = e ∙ take_all (length text - at) (drop at text) (omega (arith, length-drop at text)); number = n }
 
-module _ (text : List ℕ) (at : ℕ) where
-  -- The digits from place `at` to place i have the value v, and those from i on are still to be read.
-  abbrev pub Reading : ℕ → ℕ → Type 0
-  Reading v i = number_at text at ≡ onward at v i (digits_ahead (drop i text))
+module _ {text rest : List ℕ} {at count : ℕ} (a : Ahead text at rest count) where
+  ahead : digits_ahead (drop at text) ≡ take count rest
+  ahead = ap digits_ahead (sym a.behind) ∙ ahead-taken rest ∙ ap (λ (k : ℕ). take k rest) (sym (a.number ∙ length-prefix_len is_digit rest))
 
-  none_ahead : digits_ahead (drop at text) ≡ [] → number_at text at ≡ none
+  long : length (take count rest) ≡ count
+  long = ap length (sym ahead ∙ ap digits_ahead (sym a.behind) ∙ ahead-taken rest) ∙ sym a.number
+
+  pub reading-digit : {i : ℕ} → i < length (take count rest) → Digit (get_or (take count rest) i 0)
+  reading-digit {i} h = digit-at (take count rest) i (subst AllDigits ahead (ahead-all (drop at text))) h
+
+  pub reading-room : {i value : ℕ} → i < length (take count rest) → count ≤ 5 → Value (take count rest) i value → value < 10000
+  reading-room {i} h l v = let q : i ≤ 4 = omega (arith, long) in let p : 10 ^ i ≤ 10 ^ 4 = pow-le-pow_right {n = 10} (omega arith) q in omega (arith, v.below)
+
+  pub reading-next : {i value : ℕ} → i < length (take count rest) → Value (take count rest) i value → Value (take count rest) (i + 1) (value * 10 + (get_or (take count rest) i 0 - 48))
+  reading-next {i} {value} h v =
+      let ds = take count rest in
+      let d = get_or ds i 0 in
+      let b = reading-digit h in
+      let p : 10 ^ suc i ≡ 10 * 10 ^ i = pow-succ' 10 i in
+      record {
+        is = ap (λ (w : ℕ). w * 10 + (d - 48)) v.is ∙ sym (ap (value_after 0) (take_more ds i 0 h) ∙ value-append 0 (take i ds) (d ∷ []));
+        below = rw (add-one i) (omega (arith, v.below));
+      }
+
+  pub number-none : (count ≡ 0) ⊎ ((count ≡ 0 → ⊥) × 5 < count) → none ≡ number_at text at
   unfolding number_at
-  none_ahead e = rw e
+  number-none h = sym (ap (λ (l : List ℕ). field_of l at) ahead ∙ rw (no-few h))
+    where
+      no-few : (count ≡ 0) ⊎ ((count ≡ 0 → ⊥) × 5 < count) → few (take count rest) ≡ false
+      no-few (inl z) = rw (long, z)
+      no-few (inr z) = rw (long, lt-leb count 5 z.1, and-false (ltb 0 count))
 
-  pub number_past : length text ≤ at → number_at text at ≡ none
-  number_past h = none_ahead (ahead-end text at h)
+  module _ {i value : ℕ} (v : Value (take count rest) i value) (end : length (take count rest) ≤ i) where
+    worth : value ≡ value_after 0 (take count rest)
+    worth = v.is ∙ ap (value_after 0) (take_all i (take count rest) end)
 
-  pub number-none : at < length text → is_digit (get_or text at 0) ≡ false → number_at text at ≡ none
-  number-none h t = none_ahead (ahead_none text at h t)
+    pub number-over : 65535 < value → none ≡ number_at text at
+    number-over h = sym (number-claim.too_large text at (omega (arith, worth, ap (value_after 0) ahead)))
 
-  pub reading-first : at < length text → is_digit (get_or text at 0) ≡ true → Reading (get_or text at 0 - 48) (at + 1)
-  unfolding number_at
-  reading-first h t =
-      let d = get_or text at 0 in
-      let rest = digits_ahead (drop (at + 1) text) in
-      let v : 0 * 10 + (d - 48) ≡ d - 48 = omega arith in
-      let n : at + suc (length rest) ≡ at + 1 + length rest = omega arith in
-      ap (λ (ds : List ℕ). field_of ds at) (ahead-one text at h t)
-      ∙ (λ i. cond (few-from at d rest i && leb (value_after (v i) rest) 65535) (some (record { value = value_after (v i) rest; next = n i })) none)
+    pub number-read : {x : ℕ} → (count ≡ 0 → ⊥) → count ≤ 5 → (value < 65536) × (x ≡ value) → some (record { value = x; next = at + count }) ≡ number_at text at
+    number-read ne l h =
+        let ds = take count rest in
+        let some-digit : 0 < length ds = omega (arith, long) in
+        let few-digits : length ds ≤ 5 = omega (arith, long) in
+        let form : in_form ds ≡ true = and-true (and-true (lt-ltb 0 (length ds) some-digit) (le-leb (length ds) 5 few-digits)) (le-leb (value_after 0 ds) 65535 (omega (arith, worth))) in
+        let n : count ≡ length ds = sym long in
+        (λ j. some (record { value = (h.1 ∙ worth) j; next = at + n j })) ∙ sym (number-here text at ds ahead form)
 
-  module _ (v i : ℕ) (r : Reading v i) where
-    done : v ≤ 65535 → i ≤ at + 5 → digits_ahead (drop i text) ≡ [] → number_at text at ≡ some (record { value = v; next = i })
-    done f l e = let n : i + 0 ≡ i = omega arith in r ∙ ap (onward at v i) e ∙ rw (n, le-leb v 65535 f, le-leb i (at + 5) l)
+pub number_past : (text : List ℕ) (at : ℕ) → length text ≤ at → none ≡ number_at text at
+unfolding number_at
+number_past text at h = sym (ap (λ (l : List ℕ). field_of (digits_ahead l) at) (drop_of_length-le text h))
 
-    pub reading-end : v ≤ 65535 → i ≤ at + 5 → length text ≤ i → number_at text at ≡ some (record { value = v; next = i })
-    reading-end f l h = done f l (ahead-end text i h)
+-- A value converted to a number of the code, or one too large for it.
+pub converted : {E : Type 0} (r : Result ℕ E) {v x : ℕ} → OkIff r (v < 65536) v → Some x ≡ result_ok r → (v < 65536) × (x ≡ v)
+converted (Ok y) {v} {x} h e = let s : x ≡ y = cc in (h.0, s ∙ h.1)
+converted (Err d) h e = cc
 
-    module _ (h : i < length text) where
-      pub reading-stop : v ≤ 65535 → i ≤ at + 5 → is_digit (get_or text i 0) ≡ false → number_at text at ≡ some (record { value = v; next = i })
-      reading-stop f l t = done f l (ahead_none text i h t)
-
-      -- A sixth digit.
-      pub reading-six : is_digit (get_or text i 0) ≡ true → at + 5 ≤ i → number_at text at ≡ none
-      reading-six t q =
-          let rest = digits_ahead (drop (i + 1) text) in
-          let long : leb (i + suc (length rest)) (at + 5) ≡ false = lt-leb (i + suc (length rest)) (at + 5) (omega arith) in
-          r ∙ ap (onward at v i) (ahead-one text i h t) ∙ rw long
-
-      pub reading-over : is_digit (get_or text i 0) ≡ true → 65535 < v * 10 + (get_or text i 0 - 48) → number_at text at ≡ none
-      reading-over t q =
-          let w = v * 10 + (get_or text i 0 - 48) in
-          let rest = digits_ahead (drop (i + 1) text) in
-          let over : leb (value_after w rest) 65535 ≡ false = lt-leb (value_after w rest) 65535 (omega (arith, value_grows w rest)) in
-          r ∙ ap (onward at v i) (ahead-one text i h t) ∙ rw (over, and-false (leb (i + suc (length rest)) (at + 5)))
-
-      pub reading-next : is_digit (get_or text i 0) ≡ true → Reading (v * 10 + (get_or text i 0 - 48)) (i + 1)
-      reading-next t =
-          let w = v * 10 + (get_or text i 0 - 48) in
-          let rest = digits_ahead (drop (i + 1) text) in
-          let n : i + suc (length rest) ≡ i + 1 + length rest = omega arith in
-          r
-          ∙ ap (onward at v i) (ahead-one text i h t)
-          ∙ (λ j. cond (leb (n j) (at + 5) && leb (value_after w rest) 65535) (some (record { value = value_after w rest; next = n j })) none)
+pub unconverted : {E : Type 0} (r : Result ℕ E) {v : ℕ} → OkIff r (v < 65536) v → None ≡ result_ok r → 65535 < v
+unconverted (Ok y) h e = cc
+unconverted (Err d) {v} h e = omega (arith, h)
 
 -- ---- a number put into an area
 -- The last of the k digits of x stand in the area from place at + i on; `rest` has the first i.

@@ -17,7 +17,7 @@ use Rattle.numbers.specs.Padding.{padded}
 use Rattle.numbers.specs.Claims.{table_length, LengthClaim, WritingClaim, Standing, NumberClaim}
 
 -- ---- values
-value-append : (v : ℕ) (ds es : List ℕ) → value_after v (ds ++ es) ≡ value_after (value_after v ds) es
+pub value-append : (v : ℕ) (ds es : List ℕ) → value_after v (ds ++ es) ≡ value_after (value_after v ds) es
 value-append v [] es = refl
 value-append v (d ∷ ds) es = value-append (v * 10 + (d - 48)) ds es
 

@@ -1,15 +1,18 @@
 // Numbers of the text.
 #![tactic(auto)]
 
-ghost use Rattle.std.specs.Prelude.{◌≡◌, ◌+◌, ◌<◌};
+ghost use Rattle.std.specs.Prelude.{◌≡◌, length, take_while};
 ghost use Rattle.numbers.specs.Decimal.{decimal_length, written, put_at, past_at, is_digit, number_at};
 ghost use Rattle.numbers.specs.Answers.{number_found};
 
-// A number, and the place past it; or digits not in form.
+// A number's digits in a text, leading zeros too, are five at most.
+const MOST_DIGITS: usize = 5;
+
+// A number, and the place past it.
 #[derive(Clone, Copy)]
-pub enum Number {
-    Found { value: u16, next: usize },
-    Out,
+pub struct Number {
+    pub value: u16,
+    pub next: usize,
 }
 
 // How many digits x has: one more than the times it can be divided by ten before it is below ten.
@@ -19,7 +22,7 @@ fn decimal_length(x: u16) -> usize
     let mut part = x;
     let mut k: usize = 1;
     while part >= 10 {
-        part = part / 10;
+        part /= 10;
         k += 1;
     }
     k
@@ -31,66 +34,40 @@ pub fn write_number(x: u16, area: &mut [u8], at: usize) -> usize
     ensures words { area.new ≡ put_at (written x) at area.old }
 {
     let k = decimal_length(x);
-    if area.len() < at {
-        return at;
-    }
-    if area.len() - at < k {
+    if area.len() < at || area.len() - at < k {
         return at;
     }
     let mut rest = x;
-    let mut i = k;
-    while i > 0 {
-        i -= 1;
-        area[at + i] = 48 + (rest % 10) as u8;
-        rest = rest / 10;
+    for i in (0..k).rev() {
+        area[at + i] = b'0' + (rest % 10) as u8;
+        rest /= 10;
     }
     at + k
 }
 
-// Whether b is the byte of a digit.
-fn is_digit(b: u8) -> bool
-    ensures { result ≡ is_digit b }
+// How many digits the text begins with.
+fn digits_ahead(text: &[u8]) -> usize
+    ensures { result ≡ length (take_while is_digit text.now) }
 {
-    if b < 48 {
-        return false;
-    }
-    b <= 57
+    text.iter().take_while(|b| b.is_ascii_digit()).count()
 }
 
 // The number in the text from place at on, and the place past its last digit. Digits are read while there are any, so that what
 // follows a number is no digit; the first may be zeros, but a sixth digit and a value over 65,535 are out of form.
-pub fn read_number(text: &[u8], at: usize) -> Number
+pub fn read_number(text: &[u8], at: usize) -> Option<Number>
     ensures { number_found result ≡ number_at text.now at }
 {
-    if text.len() <= at {
-        return Number::Out;
+    let rest = text.get(at..)?;
+    let count = digits_ahead(rest);
+    if count == 0 || count > MOST_DIGITS {
+        return None;
     }
-    let first = text[at];
-    if !is_digit(first) {
-        return Number::Out;
+    let digits = &rest[..count];
+    let mut value: u32 = 0;
+    for digit in digits {
+        value = value * 10 + u32::from(*digit - b'0');
     }
-    let mut value: u32 = (first - 48) as u32;
-    let mut i = at + 1;
-    while i < text.len() {
-        let b = text[i];
-        if !is_digit(b) {
-            return Number::Found {
-                value: value as u16,
-                next: i,
-            };
-        }
-        // A sixth digit.
-        if i - at == 5 {
-            return Number::Out;
-        }
-        value = value * 10 + (b - 48) as u32;
-        if value > 65535 {
-            return Number::Out;
-        }
-        i += 1;
-    }
-    Number::Found {
-        value: value as u16,
-        next: i,
-    }
+    let value = u16::try_from(value).ok()?;
+    let next = at + count;
+    Some(Number { value, next })
 }

@@ -4,6 +4,9 @@ use mathlib.Core.Path.{◌≡◌, refl, sym, ap, ◌∙◌}
 use mathlib.Core.Bool.{Bool, false, cond}
 use mathlib.Core.List.{List, [], ◌∷◌, ◌++◌, map, append_assoc, map-append}
 use mathlib.Core.Option.{Option, none, some}
+use Rattle.std.specs.Prelude as std
+use Rattle.std.specs.Prelude.{Err, ok_or}
+use Rattle.refusals.specs.declared.Refusal.{Refusal}
 use Prim.Native.Nat.{ℕ, zero, suc, ◌+◌, ◌-◌, ◌≤◌, ◌<◌}
 use native.Mathlib.Omega.{arith}
 use native.Mathlib.Numerals.{add-one}
@@ -43,6 +46,11 @@ record Chain {A B : Type 0} (x : Option A) (f : A → Option B) (b : B) : Type 0
 chained : {A B : Type 0} (x : Option A) (f : A → Option B) (b : B) → and_then x f ≡ some b → Chain x f b
 chained none f b e = absurd (let z : ◌≡◌ {A = ℕ} 0 1 = cc in omega arith)
 chained (some a) f b e = record { value = a; found = refl; next = e }
+
+-- What was found, where it was asked for or refused.
+pub none-refused : {A : Type 0} (o : std.Option A) {r e : Refusal} → Err e ≡ ok_or o r → e ≡ r
+none-refused std.None h = cc
+none-refused (std.Some a) h = cc
 
 -- ---- writing
 -- The words of the first k lines are pasted, and the next line's word is stored behind them.
@@ -223,26 +231,27 @@ module _ {n m : ℕ} {ls : List Line} {area : List ℕ} where
   from-word k h = ap (λ (l : List ℕ). get_or l (n + k) 0) h.words ∙ half-from (n + suc k) n k ls area (omega (arith, h.number, h.upto))
 
   -- The word of the next edge to be linked is a vertex.
-  linked-from : {after : List ℕ} (k : ℕ) → Linked n m k ls area after → 0 < k → Vertex n (get_or after (n + k - 1) 0)
+  linked-from : {after : List ℕ} (k : ℕ) → Linked n m k ls area after → 0 < k → Vertex n (get_or after (n + (k - 1)) 0)
   linked-from zero h z = absurd (omega arith)
   linked-from (suc k) h z =
-      let e : n + suc k - 1 ≡ n + k = omega arith in
+      let e : suc k - 1 ≡ k = omega arith in
       rw (e, from-word k h) (from-vertex n ls k h.vertices (omega (arith, h.number, h.upto)))
 
-  pub linked-next : {after : List ℕ} (k : ℕ) → Linked n m k ls area after → 0 < k → Linked n m (k - 1) ls area (set (set after (n + k - 1) (get_or after (get_or after (n + k - 1) 0 - 1) 0)) (get_or after (n + k - 1) 0 - 1) (n + k))
+  -- One line more is linked, the last of the first k.
+  pub linked-next : {after : List ℕ} (k : ℕ) → Linked n m k ls area after → 0 < k → Linked n m (k - 1) ls area (set (set after (n + (k - 1)) (get_or after (get_or after (n + (k - 1)) 0 - 1) 0)) (get_or after (n + (k - 1)) 0 - 1) (n + (k - 1) + 1))
   linked-next zero h z = absurd (omega arith)
   linked-next {after} (suc k) h z =
-      let a : n + suc k - 1 ≡ n + k = omega arith in
       let b : suc k - 1 ≡ k = omega arith in
       let r : n + suc k ≡ suc (n + k) = omega arith in
+      let s : suc (n + k) ≡ n + suc k = sym r in
       let q : k < length ls = omega (arith, h.number, h.upto) in
       let f = from-word k h in
-      rw (a, b) record {
+      rw (b, add-one (n + k)) record {
         number = h.number;
         vertices = h.vertices;
         long = h.long;
         upto = omega (arith, h.upto);
-        words = (λ i. set (set (h.words i) (n + k) (get_or (h.words i) (f i - 1) 0)) (f i - 1) (n + suc k))
+        words = (λ i. set (set (h.words i) (n + k) (get_or (h.words i) (f i - 1) 0)) (f i - 1) (s i))
             ∙ half-next (n + suc k) n k ls area q (from-vertex n ls k h.vertices q)
             ∙ ap (λ (e : ℕ). half e n k ls area) r;
       }
@@ -262,10 +271,16 @@ module _ {n m : ℕ} {ls : List Line} {area : List ℕ} where
 pub record Room (n k : ℕ) (after : List ℕ) : Type 0 where
   pub few : n + k ≤ 5000
   pub long : n + k ≤ length after
-  pub vertex : Vertex n (get_or after (n + k - 1) 0)
+  pub vertex : Vertex n (get_or after (n + (k - 1)) 0)
 
 pub placed-length : {n m : ℕ} {ls : List Line} {area entry : List ℕ} → Placed n m ls area entry → length entry ≡ length area
 placed-length {n} {m} {ls} {area} p = ap length p.words ∙ length-pasted n area (omega (arith, p.long)) (froms ls) (omega (arith, p.long, p.number, length-map ls (λ l. l.from)))
+
+-- The vertices' words are cleared.
+pub cleared-front : {n m : ℕ} {ls : List Line} {area entry front : List ℕ} → Placed n m ls area entry → front ≡ replicate (length (take n entry)) 0 → front ++ drop n entry ≡ cleared n entry
+cleared-front {n} {entry = entry} p e =
+    let long = length-take-le n entry (omega (arith, placed-length p, p.long)) in
+    ap (λ (l : List ℕ). l ++ drop n entry) (e ∙ ap (λ (k : ℕ). replicate k 0) long)
 
 module _ {n m k : ℕ} {entry begun after : List ℕ} (can : CanLink n m entry) (e : begun ≡ cleared n entry) (inv : (ls : List Line) (area : List ℕ) → Linked n m m ls area begun → Linked n m k ls area after) where
   course : Linked n m k can.lines can.area after
@@ -366,30 +381,30 @@ module _ {text after tail : List ℕ} {n m start next k : ℕ} (f : InForm text 
       go zero ne = absurd (ne refl)
       go (suc k) ne = refl
 
-  module _ (z : k ≡ 0) where
-    pub form-taken : Taken n m f.lines after tail
-    form-taken = listing-taken n m start f.lines after tail (f.number ∙ z)
+module _ {text after tail : List ℕ} {n m start next : ℕ} (f : InForm text after tail n m start next 0) where
+  pub form-taken : Taken n m f.lines after tail
+  form-taken = listing-taken n m start f.lines after tail f.number
 
-    pub form-placed : {left : List ℕ} → left ≡ pasted n (froms f.lines) after → Placed n m f.lines after left
-    form-placed e =
-        record {
-          number = length-lines text next m f.lines f.found;
-          vertices = form-taken.vertices;
-          long = form-taken.long_after;
-          words = e;
-        }
+  pub form-placed : {left : List ℕ} → left ≡ pasted n (froms f.lines) after → Placed n m f.lines after left
+  form-placed e =
+      record {
+        number = length-lines text next m f.lines f.found;
+        vertices = form-taken.vertices;
+        long = form-taken.long_after;
+        words = e;
+      }
 
-    pub form-links : {left : List ℕ} → left ≡ pasted n (froms f.lines) after → CanLink n m left
-    form-links e =
-        record {
-          few_vertices = form-taken.few_vertices;
-          few_edges = form-taken.few_edges;
-          lines = f.lines;
-          area = after;
-          placed = form-placed e;
-        }
+  pub form-links : {left : List ℕ} → left ≡ pasted n (froms f.lines) after → CanLink n m left
+  form-links e =
+      record {
+        few_vertices = form-taken.few_vertices;
+        few_edges = form-taken.few_edges;
+        lines = f.lines;
+        area = after;
+        placed = form-placed e;
+      }
 
-    pub answer-loaded : {left-after left-tail : List ℕ} → left-after ≡ overlay (after_of (listed n m start f.lines)) after → left-tail ≡ overlay (tos f.lines) tail → Promised text after tail (sizes n m start) left-after left-tail
-    answer-loaded a t =
-        let e : reading text after tail ≡ loaded (listed n m start f.lines) = f.reads ∙ ap (λ (i : ℕ). decided i (listed n m start f.lines)) z in
-        (ap answer_to (sym e), (a ∙ ap (λ (r : Reading). after_left r after) (sym e), t ∙ ap (λ (r : Reading). tail_left r tail) (sym e)))
+  pub answer-loaded : {left-after left-tail : List ℕ} → left-after ≡ overlay (after_of (listed n m start f.lines)) after → left-tail ≡ overlay (tos f.lines) tail → Promised text after tail (sizes n m start) left-after left-tail
+  answer-loaded a t =
+      let e : reading text after tail ≡ loaded (listed n m start f.lines) = f.reads in
+      (ap answer_to (sym e), (a ∙ ap (λ (r : Reading). after_left r after) (sym e), t ∙ ap (λ (r : Reading). tail_left r tail) (sym e)))

@@ -1,7 +1,7 @@
 -- Laws of reading a profile's text: one reading after another, names, fields, value lines.
 -- By what the first reading finds; along the names and along the value lines, one at a time.
 use mathlib.Core.Path.{◌≡◌, refl, sym, ap, ◌∙◌}
-use mathlib.Core.Bool.{Bool, true, false, not, cond, ◌||◌, or_assoc}
+use mathlib.Core.Bool.{Bool, true, false, not, cond, ◌&&◌, ◌||◌, or_assoc}
 use mathlib.Core.List.{List, [], ◌∷◌}
 use mathlib.Core.Option.{Option, none, some}
 use Prim.Native.Nat.{ℕ, suc, ◌+◌, ◌-◌, ◌≤◌, ◌<◌}
@@ -10,7 +10,12 @@ use native.Mathlib.Nat.{sub-zero}
 use native.Mathlib.Numerals.{add-one}
 use lib.Dec.{eqb}
 use lib.ListN.{length, get_or, drop, length-drop, drop_of_length-le, get_or-eq_default}
-use lib.Seq.{drop-cons}
+use lib.Seq.{take_all}
+use Rattle.std.specs.Prelude as std
+use Rattle.std.specs.Prelude.{nat_eq, unwrap_or}
+use Rattle.std.specs.List.{starts_with}
+use Rattle.std.specs.Slice.{IsGetRangeResult}
+use Rattle.std.proofs.Common.{Bor}
 use borrow.Author.Tests.{eq-eqb, ne_eqb, not-true, not-false}
 use Rattle.lists.proofs.Tests.{clash, both, or-none}
 use Rattle.numbers.specs.Decimal.{number_at}
@@ -18,10 +23,6 @@ use Rattle.texts.specs.Loading.{line_out, lines_out}
 use Rattle.texts.specs.Text.{Line, and_then, begins, stopped, field_at, line_at, lines_at}
 
 -- ---- one reading after another
--- What a call has found, in the case that it gave.
-pub in-arm : {A B : Type 0} (f : A → B) {r s : A} {o : B} → r ≡ s → f r ≡ o → f s ≡ o
-in-arm f e q = sym (ap f e) ∙ q
-
 module _ {A B : Type 0} {o : Option A} where
   pub first-none : (f : A → Option B) → none ≡ o → none ≡ and_then o f
   first-none f e = ap (λ (p : Option A). and_then p f) e
@@ -30,22 +31,16 @@ module _ {A B : Type 0} {o : Option A} where
   first_some f e = ap (λ (p : Option A). and_then p f) e
 
 -- ---- names
-module _ (names text : List ℕ) (at i : ℕ) (h : i < length names) where
-  -- The text ends before the names do.
-  pub names-short : length text ≤ at + i → begins (drop i names) (drop (at + i) text) ≡ false
-  names-short q = rw (drop-cons names i 0 h, drop_of_length-le text q)
+-- The library's test of what a text begins with is the definition's.
+pub names-tested : (names text : List ℕ) → starts_with nat_eq text names ≡ begins names text
+names-tested [] text = refl
+names-tested (x ∷ xs) [] = refl
+names-tested (x ∷ xs) (b ∷ bs) = ap (λ (t : Bool). eqb x b && t) (names-tested xs bs)
 
-  module _ (q : at + i < length text) where
-    pub names-other : (get_or text (at + i) 0 ≡ get_or names i 0 → ⊥) → begins (drop i names) (drop (at + i) text) ≡ false
-    names-other ne = rw (drop-cons names i 0 h, drop-cons text (at + i) 0 q, ne_eqb (get_or names i 0) (get_or text (at + i) 0) (λ e. ne (sym e)))
-
-    pub names-next : get_or text (at + i) 0 ≡ get_or names i 0 → begins (drop i names) (drop (at + i) text) ≡ begins (drop (i + 1) names) (drop (at + (i + 1)) text)
-    names-next e =
-        let s : at + (i + 1) ≡ suc (at + i) = omega arith in
-        rw (drop-cons names i 0 h, drop-cons text (at + i) 0 q, eq-eqb (get_or names i 0) (get_or text (at + i) 0) (sym e), s, add-one i)
-
-pub names-end : (names text : List ℕ) (at i : ℕ) → length names ≤ i → begins (drop i names) (drop (at + i) text) ≡ true
-names-end names text at i h = rw (drop_of_length-le names h)
+-- The bytes behind a place, none where the text ends before it.
+pub rest-behind : (text : List ℕ) (at : ℕ) (r : std.Option (Bor (List ℕ))) (none-left : Bor (List ℕ)) → none-left.now ≡ [] → IsGetRangeResult text at (length text) r → (unwrap_or r none-left).now ≡ drop at text
+rest-behind text at (std.Some s) none-left e h = h.0.2 ∙ take_all (length text - at) (drop at text) (omega (arith, length-drop at text))
+rest-behind text at std.None none-left e h = e ∙ sym (drop_of_length-le text (omega (arith, h.0)))
 
 names-within : (names text : List ℕ) → begins names text ≡ true → length names ≤ length text
 names-within [] text e = omega arith

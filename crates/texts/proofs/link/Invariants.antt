@@ -1,11 +1,7 @@
-use mathlib.Core.List.{List}
-use Prim.Native.Nat.{ℕ}
+use Rattle.std.proofs.Common.{List, ℕ}
 use Rattle.texts.specs.Text.{Line}
 use Rattle.texts.proofs.Linking.{Linked}
 use Rattle.texts.proofs.link.Given as goal
 
 abbrev pub invariant-loop-k : goal.invariant-loop-k
 invariant-loop-k l = (ls : List Line) (area : List ℕ) → Linked l.n l.m l.m ls area l.initial.after → Linked l.n l.m l.k ls area l.after
-
-abbrev pub decreases-loop-k : goal.decreases-loop-k
-decreases-loop-k l = l.k
