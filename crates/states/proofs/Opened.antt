@@ -2,9 +2,11 @@
 -- What the start's labelling leaves is one mark and one event, where there is room for them.
 use mathlib.Core.Path.{◌≡◌, sym, ap, ◌∙◌}
 use mathlib.Core.Logic.{◌≢◌}
+use mathlib.Core.Bool.{Bool, not, ◌&&◌}
 use mathlib.Core.List.{List, [], ◌∷◌}
 use Prim.Native.Nat.{ℕ, ◌+◌, ◌≤◌}
 use native.Mathlib.Omega.{arith}
+use lib.Dec.{leb}
 use lib.ListN.{length}
 use Rattle.lists.specs.Members.{Mem}
 use Rattle.lists.specs.Words.{put, overlay}
@@ -13,14 +15,24 @@ use Rattle.graphs.specs.Nodes.{Vertex}
 use Rattle.graphs.specs.Events.{event, label, words, ◌▸◌}
 use Rattle.graphs.specs.Image.{Image}
 use Rattle.graphs.specs.Results.{marks_first}
-use Rattle.graphs.specs.Refusals.{lent, search_number}
+use Rattle.graphs.specs.Refusals.{Lent, lent, short, search_number}
 use Rattle.graphs.proofs.Refusals.{long}
 use Rattle.graphs.proofs.Results.{marks-first}
 use Rattle.graphs.proofs.Sound.{profile_sound}
 use Rattle.folding.specs.Calls.{refusing, unless, unopened, open_number, opened_at, open_reply, opening}
+use Rattle.walks.proofs.Numbers.{more-lent, own-test}
 use Rattle.walks.specs.Writing.{Roomy}
 use Rattle.walks.proofs.Writing.{Starts, beginning}
 use Rattle.states.proofs.Numbers.{unless-refused}
+
+-- The number that the code finds, from its tests of the areas.
+pub numbered : (g : Image) (before : List ℕ) (start : ℕ) (marks area : List ℕ) {nodes k : ℕ} {all : Bool}
+    → nodes ≡ g.n + g.m
+    → all ≡ (leb nodes (length marks) && leb 3 (length area))
+    → ((areas : List Lent) → all ≡ not (short areas) → k ≡ search_number g before start areas)
+    → k ≡ search_number g before start (lent (g.n + g.m) marks ∷ lent 3 area ∷ [])
+numbered g before start marks area e a number =
+    number (lent (g.n + g.m) marks ∷ lent 3 area ∷ []) (a ∙ ap (λ (j : ℕ). leb j (length marks) && leb 3 (length area)) e ∙ more-lent (g.n + g.m) marks (lent 3 area ∷ []) _ (own-test 3 area))
 
 module _ (g : Image) (before : List ℕ) (start : ℕ) (marks area : List ℕ) {k : ℕ} (e : k ≡ search_number g before start (lent (g.n + g.m) marks ∷ lent 3 area ∷ [])) where
   number_is : open_number g before start marks area ≡ k

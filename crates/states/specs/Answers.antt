@@ -1,15 +1,15 @@
 -- What a caller sees of a call: document 01's number and values for each case of an answer, the state with the lent areas, and the event area.
-use Rattle.std.specs.Prelude.{◌≡◌, Bool, ◌&&◌, List, ℕ, suc, ltb, leb, length}
+use Rattle.std.specs.Prelude.{◌≡◌, Bool, ◌&&◌, List, ℕ, suc, ltb, leb, length, Option, Some, None, Result, Ok, Err}
 use Rattle.graphs.specs.Image.{Image}
 use Rattle.folding.specs.Machine.{Config}
 use Rattle.folding.specs.Calls as calls
-use Rattle.folding.specs.Calls.{ended, spent, stuck, ran, taken, refused, Call, serve, opening}
+use Rattle.folding.specs.Calls.{ended, spent, stuck, ran, taken, refusing, Call, serve, opening}
 use Rattle.states.specs.declared.values.State.{State}
 use Rattle.states.specs.declared.values.Reply.{Reply}
 use Rattle.states.specs.declared.values.Reason.{Reason}
 use Rattle.states.specs.declared.values.Reason.TheVariants as reason
-use Rattle.states.specs.declared.values.Answer.{Answer}
-use Rattle.states.specs.declared.values.Answer.TheVariants as answer
+use Rattle.refusals.specs.declared.Refusal.{Refusal}
+use Rattle.refusals.specs.Numbers.{number_of}
 
 -- Why a run stopped.
 abbrev pub reason_of : Reason → calls.Reason
@@ -17,11 +17,10 @@ reason_of reason.Ended = ended
 reason_of reason.Spent = spent
 reason_of reason.Stuck = stuck
 
--- The answer of a call: a run's reason, taken, or its number of the table.
-abbrev pub answer_of : Answer → calls.Answer
-answer_of (answer.Ran why) = ran (reason_of why)
-answer_of answer.Taken = taken
-answer_of (answer.Refused k) = refused k
+-- The answer of a call that is taken: of a run its reason.
+abbrev pub answer_of : Option Reason → calls.Answer
+answer_of (Some why) = ran (reason_of why)
+answer_of None = taken
 
 -- A state with the links and marks that a call is lent.
 abbrev pub config_of : State → (after tail marks : List ℕ) → Config
@@ -39,9 +38,15 @@ pub record Seen : Type 0 where
 abbrev pub seen_of : calls.Reply → Seen
 seen_of r = record { answer = r.answer; steps = r.steps; count = length r.events; config = r.config; area = r.area }
 
--- What is seen of a reply of the code, with the areas as the call leaves them.
-abbrev pub told : Reply → (after tail marks area : List ℕ) → Seen
-told r after tail marks area = record { answer = answer_of r.answer; steps = r.steps; count = r.events; config = config_of r.state after tail marks; area = area }
+-- What is seen of a call that is taken, with the areas as it leaves them.
+abbrev pub told_taken : Reply → (after tail marks area : List ℕ) → Seen
+told_taken r after tail marks area = record { answer = answer_of r.why; steps = r.steps; count = r.events; config = config_of r.state after tail marks; area = area }
+
+-- What is seen of a call, taken or refused; `kept` is what it is given, with the areas as it leaves them. One that is refused answers its
+-- number, and has made no step and no event.
+abbrev pub told : Result Reply Refusal → (kept : Config) → (area : List ℕ) → Seen
+told (Ok r) kept area = told_taken r kept.after kept.tail kept.marks area
+told (Err k) kept area = seen_of (refusing (number_of k) kept area)
 
 -- ---- what the calls promise
 -- `open`: what its caller sees is what is seen of the opening as defined, taken or refused.
@@ -53,10 +58,6 @@ abbrev pub CallPromise : Config → Call → Seen → Type 0
 CallPromise w c s = s ≡ seen_of (serve w c)
 
 -- ---- inside
--- What is seen of a run that stops.
-abbrev pub told_ran : Reason → (steps count : ℕ) → Config → List ℕ → Seen
-told_ran why steps count w area = record { answer = ran (reason_of why); steps = steps; count = count; config = w; area = area }
-
 -- Phase, next label and circular figure are in kind.
 abbrev pub counts_in : State → Bool
 counts_in s = (ltb 0 s.phase && leb s.phase 6) && ((leb 2 s.next && leb s.next (suc s.n)) && leb s.circular 1)

@@ -9,7 +9,7 @@ mod opening;
 mod order;
 mod values;
 
-pub use judge::{is_over, state_number};
+pub use judge::{check_state, is_over};
 pub use opening::open;
 pub use order::roll_back;
-pub use values::{Answer, Reason, Reply, State, refused};
+pub use values::{Phase, Reason, Reply, State};

@@ -1,81 +1,55 @@
 // The opening: the image is checked and the list of elements already on the blank, the marks are cleared but for these, the start is
 // labelled.
-ghost use Rattle.std.specs.Prelude.{◌≡◌, ◌&&◌, List, ℕ, leb};
-ghost use Rattle.images.specs.Checking.{image};
+ghost use Rattle.std.specs.Prelude.{◌≡◌, ◌&&◌, leb};
+ghost use Rattle.images.specs.Checking.{image_of};
 ghost use Rattle.folding.specs.Calls.{unopened};
-ghost use Rattle.states.specs.Answers.{config_of, told, OpenPromise};
+ghost use Rattle.states.specs.Answers.{told, OpenPromise};
 
-use crate::values::{Answer, Reply, State, refused};
-use images::{Edge, Vertex};
-use walks::{begin, search_number};
+use crate::values::{Phase, Reply, State};
+use images::{Edge, Image, Vertex};
+use refusals::Refusal;
+use walks::{begin, check_search};
 
 // Whether the marks are as many as the nodes, and the event words 3.
 fn is_long(nodes: usize, marks: usize, events: usize) -> bool
     ensures { result ≡ (leb nodes marks && leb 3 events) }
 {
-    if marks < nodes {
-        return false;
-    }
-    3 <= events
-}
-
-// No state: what a refused opening answers.
-fn no_state(n: u16, m: u16, start: Vertex) -> State
-    ensures { (after tail marks : List ℕ) → config_of result after tail marks ≡ unopened (image n m after tail) start.0 marks }
-{
-    State {
-        n: n,
-        m: m,
-        start: start,
-        v: Vertex(0),
-        e: Edge(0),
-        f: 0,
-        phase: 0,
-        next: 0,
-        circular: 0,
-    }
+    nodes <= marks && 3 <= events
 }
 
 // Opens a folded search of a linked image from start, with the elements already on the blank, n + m marks and 3 event words. Refused by
-// 1, 2, 3 (all areas), 4, 5, 6, 7, 17, 18; the state of a refused opening is none: its phase is 0, and every call refuses it.
+// 1, 2, 3 (all areas), 4, 5, 6, 7, 17, 18.
 pub fn open(
-    n: u16,
-    m: u16,
-    start: Vertex,
-    after: &[u16],
-    tail: &[u16],
+    g: &Image,
     before: &[u16],
+    start: Vertex,
     marks: &mut [u16],
     events: &mut [u16],
-) -> Reply
-    ensures { OpenPromise (image n m after.now tail.now) before.now start.0 marks.old events.old (told result after.now tail.now marks.new events.new) }
+) -> Result<Reply, Refusal>
+    ensures { OpenPromise (image_of g.now) before.now start.0 marks.old events.old (told result (unopened (image_of g.now) start.0 marks.new) events.new) }
 {
-    let x = start.0;
-    let nodes = n as usize + m as usize;
+    let nodes = g.nodes();
     let long = is_long(nodes, marks.len(), events.len());
-    let k = search_number(n, m, start, after, tail, before, long);
-    if k != 0 {
-        return refused(k, no_state(n, m, start));
-    }
+    check_search(g, before, start, long)?;
     begin(marks, events, nodes, before, start);
-    let i = x as usize - 1;
+    let i = start.0 as usize - 1;
     marks[i] = 32769; // 32,768 more than its number, since it is not yet scanned
-    let e = Edge(after[i]);
-    let s = State {
-        n: n,
-        m: m,
-        start: start,
+    let e = Edge(g.after[i]);
+    let state = State {
+        n: g.n,
+        m: g.m,
+        start,
         v: start,
-        e: e,
+        e,
         f: 0,
-        phase: 1,
+        phase: Phase::Walking as u16,
         next: 2,
         circular: 0,
     };
-    Reply {
-        answer: Answer::Taken,
+    Ok(Reply {
+        why: None,
         steps: 0,
         events: 1,
-        state: s,
-    }
+        state,
+    })
 }

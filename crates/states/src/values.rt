@@ -1,12 +1,8 @@
-// The state of a folded search, by value, and the answer of every call.
-ghost use Rattle.std.specs.Prelude.{◌≡◌, List, ℕ};
-ghost use Rattle.folding.specs.Calls.{refusing};
-ghost use Rattle.states.specs.Answers.{config_of, seen_of, told};
-
+// The state of a folded search, by value; why a run stopped; and what a call that is taken has done.
 use images::{Edge, Vertex};
 
 // v is the vertex being scanned, e the edge next to traverse or null, f the trailer, next the next label number. All of them are untrusted
-// numbers: every call tests their ranges.
+// numbers: every call tests their ranges. The phase too is a number, since a caller may hand in any.
 #[derive(Clone, Copy)]
 pub struct State {
     pub n: u16,
@@ -20,39 +16,30 @@ pub struct State {
     pub circular: u16,
 }
 
-// Why a run stopped.
-#[derive(Clone, Copy)]
+// The six phases, with their numbers (document 01: walking, restoring, ended, winding back, withdrawn, accepted).
+#[derive(Clone, Copy, Debug, PartialEq, Eq)]
+pub enum Phase {
+    Walking = 1,
+    Restoring = 2,
+    Finished = 3,
+    RollingBack = 4,
+    RolledBack = 5,
+    Accepted = 6,
+}
+
+// Why a run stopped: there was no step to come; its budget was spent; the step to come was out of kind.
+#[derive(Clone, Copy, Debug, PartialEq, Eq)]
 pub enum Reason {
-    Ended,
-    Spent,
-    Stuck,
+    Ended = 1,
+    Spent = 2,
+    Stuck = 3,
 }
 
-// A run taken, another call taken, or a call refused with its number.
-#[derive(Clone, Copy)]
-pub enum Answer {
-    Ran(Reason),
-    Taken,
-    Refused(u16),
-}
-
-// The answer, the steps made, the number of events written, and the state.
+// What a call that is taken has done: why it stopped, of a run alone; the steps made, the number of events written, and the state.
 #[derive(Clone, Copy)]
 pub struct Reply {
-    pub answer: Answer,
+    pub why: Option<Reason>,
     pub steps: u32,
     pub events: usize,
     pub state: State,
-}
-
-// A refused call changes nothing.
-pub fn refused(k: u16, s: State) -> Reply
-    ensures { (after tail marks area : List ℕ) → told result after tail marks area ≡ seen_of (refusing k (config_of s after tail marks) area) }
-{
-    Reply {
-        answer: Answer::Refused(k),
-        steps: 0,
-        events: 0,
-        state: s,
-    }
 }
