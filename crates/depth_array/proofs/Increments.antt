@@ -30,7 +30,7 @@ use Rattle.graphs.proofs.Places.{Frame, frame, parent, path, Above, of-rest, sce
 use Rattle.graphs.proofs.Trees.{AllTrees, no-tree, all-trees}
 use Rattle.graphs.proofs.Tails.{tails-length, tails-kept}
 use Rattle.arrays.specs.Arrays.{array_in}
-use Rattle.walks.specs.declared.write.Walked.{Walked}
+use Rattle.walks.specs.Promises.{Walked}
 use Rattle.walks.specs.Promises.{array_walk_number, array_walk, ArrayPromise}
 use Rattle.walks.specs.Writing.{no_events, total}
 use Rattle.walks.specs.Moves.{Underway}

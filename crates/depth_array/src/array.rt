@@ -6,12 +6,15 @@ ghost use Rattle.graphs.specs.ArrayForm.{array_graph};
 ghost use Rattle.graphs.specs.Results.{increment_left};
 ghost use Rattle.graphs.specs.Refusals.{unless_refused};
 ghost use Rattle.arrays.specs.Arrays.{array_in};
-ghost use Rattle.walks.specs.Promises.{array_walk, ArrayPromise};
+ghost use Rattle.refusals.specs.Numbers.{number_in};
+ghost use Rattle.walks.specs.Promises.{array_walk, walked_of, ArrayPromise};
 ghost use Rattle.walks.specs.Writing.{total};
 ghost use Rattle.depth_array.specs.Increments.{is_new, ArrayAt, SomeArrayAt, Onward, CanSearch, Ended};
 
+use arrays::ArrayForm;
 use images::{Edge, Vertex};
-use walks::{Walked, array_walk_number, begin, clear, emit, label, refused};
+use refusals::Refusal;
+use walks::{Kind, begin, check_array_walk, clear, emit, label};
 
 // A position in the tails.
 #[derive(Clone, Copy)]
@@ -32,10 +35,7 @@ fn is_new(increments: &[u16], marks: &[u16], i: usize) -> bool
     requires { (i < length increments.now) × (i < length marks.now) }
     ensures { result ≡ is_new (get_or increments.now i 0) (get_or marks.now i 0) }
 {
-    if increments[i] != 0 {
-        return false;
-    }
-    marks[i] != 65535
+    increments[i] == 0 && marks[i] != 65535
 }
 
 // Traverses position p, the trailer being the parent of v: on to the vertex that it leads to where that is not labelled, else to the next
@@ -65,7 +65,7 @@ fn advance(
     let x = tails[j];
     let i = x as usize - 1;
     if is_new(increments, marks, i) {
-        let a = emit(events, 2, Edge(r), v, t);
+        let a = emit(events, Kind::AdvanceTree as u16, Edge(r), v, t);
         increments[here] = p - firsts[here] + 1;
         tails[j] = f.0;
         let b = label(marks, events, Vertex(x), a);
@@ -78,8 +78,8 @@ fn advance(
             tally: b,
         }
     } else {
-        let a = emit(events, 3, Edge(r), v, t);
-        let b = emit(events, 4, Edge(r), v, a);
+        let a = emit(events, Kind::AdvanceNontree as u16, Edge(r), v, t);
+        let b = emit(events, Kind::RetreatNontree as u16, Edge(r), v, a);
         let next = p + 1;
         Place {
             v: v,
@@ -109,14 +109,14 @@ fn retreat(
     let t = place.tally;
     let v = place.v;
     let u = place.f;
-    let a = emit(events, 6, Edge(0), v, t);
+    let a = emit(events, Kind::Scan as u16, Edge(0), v, t);
     let i = u.0 as usize - 1;
     let p = firsts[i] + increments[i] - 1;
     let r = n + p;
     let j = p as usize - 1;
     let f = tails[j];
     tails[j] = v.0;
-    let b = emit(events, 5, Edge(r), u, a);
+    let b = emit(events, Kind::RetreatTree as u16, Edge(r), u, a);
     let next = p + 1;
     Place {
         v: u,
@@ -180,10 +180,10 @@ fn finish(
 fn open(
     n: u16,
     m: u16,
-    start: Vertex,
     firsts: &[u16],
     tails: &[u16],
     before: &[u16],
+    start: Vertex,
     marks: &mut [u16],
     increments: &mut [u16],
     events: &mut [u16],
@@ -209,10 +209,10 @@ fn open(
 fn search(
     n: u16,
     m: u16,
-    start: Vertex,
     firsts: &[u16],
     tails: &mut [u16],
     before: &[u16],
+    start: Vertex,
     marks: &mut [u16],
     increments: &mut [u16],
     events: &mut [u16],
@@ -222,11 +222,11 @@ fn search(
         tails.new marks.new increments.new events.new result }
 {
     let p = open(
-        n, m, start, firsts, tails, before, marks, increments, events,
+        n, m, firsts, tails, before, start, marks, increments, events,
     );
     let q = finish(n, m, firsts, tails, marks, increments, events, p);
     let t = q.tally;
-    emit(events, 6, Edge(0), start, t)
+    emit(events, Kind::Scan as u16, Edge(0), start, t)
 }
 
 // Depth-first search of an array form from start, with the elements already on the blank and n increments. Refused by 1, 2, 3 (all areas),
@@ -234,31 +234,29 @@ fn search(
 pub fn dfs_array(
     n: u16,
     m: u16,
-    start: Vertex,
     firsts: &[u16],
     tails: &mut [u16],
     before: &[u16],
+    start: Vertex,
     marks: &mut [u16],
     increments: &mut [u16],
     events: &mut [u16],
-) -> Walked
+) -> Result<[u32; 7], Refusal>
     ensures walk { ArrayPromise (array_in n m firsts.now tails.old) before.now start.0 increments.old
-        marks.old events.old result marks.new events.new }
+        marks.old events.old (walked_of result) marks.new events.new }
     ensures tails { tails.new ≡ tails.old }
-    ensures increments { increments.new ≡ unless_refused result.number (increment_left (array_graph (array_in n m firsts.now tails.old))
+    ensures increments { increments.new ≡ unless_refused (number_in result) (increment_left (array_graph (array_in n m firsts.now tails.old))
         (array_walk (array_in n m firsts.now tails.old) before.now start.0) increments.old) increments.old }
 {
-    let k = array_walk_number(
-        n, m, start, firsts, tails, before, marks, increments, events,
+    let a = ArrayForm {
+        n,
+        m,
+        firsts,
+        tails: &*tails,
+    };
+    check_array_walk(&a, before, start, marks, increments, events)?;
+    let tally = search(
+        n, m, firsts, tails, before, start, marks, increments, events,
     );
-    if k != 0 {
-        return refused(k);
-    }
-    let t = search(
-        n, m, start, firsts, tails, before, marks, increments, events,
-    );
-    Walked {
-        number: 0,
-        tally: t,
-    }
+    Ok(tally)
 }
