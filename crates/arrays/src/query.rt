@@ -1,5 +1,5 @@
 // Asking an array form for the edges out of one vertex.
-ghost use Rattle.std.specs.Prelude.{◌≡◌, [], ◌∷◌, ◌+◌, ◌≤◌, length};
+ghost use Rattle.std.specs.Prelude.{◌≡◌, [], ◌∷◌};
 ghost use Rattle.graphs.specs.ArrayForm.{is_ordered};
 ghost use Rattle.graphs.specs.Refusals.{first_of, refuse, vertex_out, array_refusals, array_number};
 ghost use Rattle.refusals.specs.Numbers.{number_in};
