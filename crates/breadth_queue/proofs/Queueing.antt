@@ -26,8 +26,7 @@ use Rattle.graphs.proofs.Refusals.{long, refused}
 use Rattle.graphs.proofs.Results.{named-length}
 use Rattle.graphs.proofs.Sound.{graph-closed}
 use Rattle.graphs.proofs.Queues.{Waiting, Scanning, queue-begin, queue-scan, queue-end}
-use Rattle.walks.specs.declared.write.Walked.{Walked}
-use Rattle.walks.specs.Promises.{walk_number, breadth_walk, BreadthPromise}
+use Rattle.walks.specs.Promises.{Walked, walk_number, breadth_walk, BreadthPromise}
 use Rattle.walks.specs.Writing.{no_events, total, Held}
 use Rattle.breadth_queue.specs.Queues.{QueueAt, SomeQueueAt, QueueScanned, CanSearch, Ended}
 use Rattle.walks.proofs.Begins.{begins, refused-promised, taken-promised}
@@ -353,31 +352,22 @@ module _ {g : Image} {v : ℕ} {marks queue events t : List ℕ} (P : SomeQueueA
         join-falls d = omega (arith, edge-total (I P P.is now ne) one k two, ap total d, (kept-turn ne).few)
 
 -- ---- the whole search
--- What the loop of the search keeps, whatever the start and the areas as lent.
-abbrev pub SearchKept : Image → List ℕ → (i₀ : ℕ) (marks queue events t : List ℕ) (i : ℕ) (marks' queue' events' t' : List ℕ) → Type 0
-SearchKept g before i₀ marks queue events t i marks' queue' events' t' =
-    (start : ℕ) (marks₀ queue₀ events₀ : List ℕ) → QueueAt g before start i₀ marks₀ queue₀ events₀ marks queue events t → QueueAt g before start i marks₀ queue₀ events₀ marks' queue' events' t'
-
-module _ {g : Image} {before : List ℕ} {start : ℕ} {marks queue events : List ℕ} (C : CanSearch g before start marks queue events) where
-  -- The start is labelled, and is the first of the queue.
-  module _ {marks' queue' events' t : List ℕ} (clears : queue' ≡ cleared (min g.n (length queue)) queue) (starts : Starts (g.n + g.m) before start marks events marks' events' t) where
-    search-start : QueueAt g before start 0 marks queue events marks' (set queue' 0 start) events' t
-    search-start = record {
-      sound = C.sound;
-      start_vertex = C.start_vertex;
-      roomy = C.roomy;
-      long = C.long;
-      h = [] ▸ event label 0 start;
-      waits = start ∷ [];
-      waiting = first-waits g C.sound before start C.start_vertex C.listed;
-      held = first-held g C.sound before start C.start_vertex C.listed C.roomy starts;
-      queue_left = ap (λ (l : List ℕ). set l 0 start) (clears ∙ all-cleared g.n queue C.long) ∙ queue-start g.n queue start (omega (arith, C.start_vertex));
-      place = refl;
-    }
-
-    pub search-at : {i : ℕ} {marks'' queue'' events'' t'' : List ℕ} → SearchKept g before 0 marks' (set queue' 0 start) events' t i marks'' queue'' events'' t''
-        → QueueAt g before start i marks queue events marks'' queue'' events'' t''
-    search-at K = K start marks queue events search-start
+-- The start is labelled, and is the first of the queue.
+pub search-start : {g : Image} {before : List ℕ} {start nodes : ℕ} {marks queue events marks' queue' events' t : List ℕ} → CanSearch g before start marks queue events → nodes ≡ g.n + g.m → queue' ≡ cleared (min g.n (length queue)) queue
+    → Starts nodes before start marks events marks' events' t
+    → QueueAt g before start 0 marks queue events marks' (set queue' 0 start) events' t
+search-start {g} {before} {start} {nodes} {marks} {queue} {events} {marks'} {queue'} {events'} {t} C all clears starts = record {
+  sound = C.sound;
+  start_vertex = C.start_vertex;
+  roomy = C.roomy;
+  long = C.long;
+  h = [] ▸ event label 0 start;
+  waits = start ∷ [];
+  waiting = first-waits g C.sound before start C.start_vertex C.listed;
+  held = first-held g C.sound before start C.start_vertex C.listed C.roomy (subst (λ (k : ℕ). Starts k before start marks events marks' events' t) all starts);
+  queue_left = ap (λ (l : List ℕ). set l 0 start) (clears ∙ all-cleared g.n queue C.long) ∙ queue-start g.n queue start (omega (arith, C.start_vertex));
+  place = refl;
+}
 
 -- The next that waits can be scanned.
 pub search-scan : {g : Image} {before : List ℕ} {start i : ℕ} {marks₀ queue₀ events₀ marks queue events t : List ℕ} → QueueAt g before start i marks₀ queue₀ events₀ marks queue events t
