@@ -17,6 +17,7 @@ use refusals::Refusal;
 use walks::{Kind, begin, check_walk, clear, emit, label};
 
 // Scans v: traverses each edge on its list, and labels and queues the vertex that it leads to where that is not labelled.
+#[tactic(auto, using(crate::proofs::Queueing::kept_turn))]
 fn scan_vertex(
     g: &Image,
     v: Vertex,

@@ -1,33 +1,18 @@
 -- A vertex is scanned: each edge on its list is traversed, and the vertices that it leads to are labelled and queued.
 -- The invariant is `ScanAt`, whatever the areas as lent; each turn adds events, of which there are at most 10,000.
 use Rattle.std.proofs.Common.{arith}
-use Rattle.breadth_queue.proofs.Queueing.{kept-first, kept-turn, kept-fits, kept-pass, pass-falls, kept-join, join-falls, scan-start, scan-end}
+use Rattle.breadth_queue.proofs.Queueing.{kept-first, kept_turn, kept-fits, kept-pass, pass-falls, kept-join, join-falls, scan-start, scan-end}
 use Rattle.breadth_queue.proofs.scan_vertex.Goals as goal
 use Rattle.breadth_queue.proofs.scan_vertex.Goals.{then-marks-l-eq0, else-marks-l-eq0}
 
 pub overflow_sub-e : goal.overflow_sub-e
-overflow_sub-e c = let f = kept-first c.requires in omega arith
+overflow_sub-e c = (kept-first c.requires).low
 
 pub bounds-g-v : goal.bounds-g-v
 bounds-g-v c = let f = kept-first c.requires in omega arith
 
 pub loop-e-init : goal.loop-e-init
-loop-e-init c = λ before start k ms qs es a. scan-start c.requires a
-
-pub overflow_sub-x : goal.overflow_sub-x
-overflow_sub-x c = let u = kept-turn c.requires c.loop-e.invariant c.loop-e-test.true in omega arith
-
-pub overflow_sub-x-in-loop-e : goal.overflow_sub-x-in-loop-e
-overflow_sub-x-in-loop-e c = let u = kept-turn c.requires c.loop-e.invariant c.loop-e-test.true in omega arith
-
-pub bounds-g-e : goal.bounds-g-e
-bounds-g-e c = let u = kept-turn c.requires c.loop-e.invariant c.loop-e-test.true in omega arith
-
-pub overflow_sub-l : goal.overflow_sub-l
-overflow_sub-l c = let u = kept-turn c.requires c.loop-e.invariant c.loop-e-test.true in omega arith
-
-pub bounds-marks-l : goal.bounds-marks-l
-bounds-marks-l c = let u = kept-turn c.requires c.loop-e.invariant c.loop-e-test.true in omega arith
+loop-e-init c = record { within = λ a. scan-start c.requires a }
 
 pub bounds-queue-last : goal.bounds-queue-last
 bounds-queue-last c =
@@ -35,10 +20,7 @@ bounds-queue-last c =
     let k = c.loop-e.invariant in
     let n = c.loop-e-test.true in
     let f = c.emit-t.ensures in
-    omega (arith, kept-fits p k n (f.tally, f.events) c.if-marks-l-eq0.true, (kept-turn p k n).long-queue)
-
-pub bounds-g-e-in-loop-e : goal.bounds-g-e-in-loop-e
-bounds-g-e-in-loop-e c = let u = kept-turn c.requires c.loop-e.invariant c.loop-e-test.true in omega arith
+    omega (arith, kept-fits p k n (f.tally, f.events) c.if-marks-l-eq0.true, (kept_turn p k n).long_queue)
 
 pub loop-e-smaller : goal.loop-e-smaller
 loop-e-smaller c =
@@ -63,4 +45,4 @@ loop-e-preserved c =
     ]
 
 pub returns : goal.returns
-returns c = λ before start k ms qs es a. scan-end c.requires a (c.loop-e.invariant before start k ms qs es a) c.loop-e-test.false (c.emit.ensures.tally, c.emit.ensures.events)
+returns c = λ before start k ms qs es a. scan-end c.requires a (c.loop-e.invariant.within a) c.loop-e-test.false (c.emit.ensures.tally, c.emit.ensures.events)
