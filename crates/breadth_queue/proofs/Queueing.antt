@@ -20,17 +20,16 @@ use Rattle.graphs.specs.Graph.{Graph, Closed}
 use Rattle.graphs.specs.Events.{event, label, scan, traverse, History, ◌▸◌, labelled, scanned}
 use Rattle.graphs.specs.Image.{Image, graph_of}
 use Rattle.graphs.specs.Results.{queue_left}
-use Rattle.graphs.specs.Refusals.{lent, unless_refused}
+use Rattle.graphs.specs.Refusals.{lent}
 use Rattle.graphs.proofs.Labels.{labels-few}
-use Rattle.graphs.proofs.Refusals.{long, refused}
+use Rattle.graphs.proofs.Refusals.{long}
 use Rattle.graphs.proofs.Results.{named-length}
 use Rattle.graphs.proofs.Sound.{graph-closed}
 use Rattle.graphs.proofs.Queues.{Waiting, Scanning, queue-begin, queue-scan, queue-end}
-use Rattle.walks.specs.declared.write.Walked.{Walked}
-use Rattle.walks.specs.Promises.{walk_number, breadth_walk, BreadthPromise}
-use Rattle.walks.specs.Writing.{no_events, total, Held}
+use Rattle.walks.specs.Promises.{walk_number, breadth_walk}
+use Rattle.walks.specs.Writing.{total, Held}
 use Rattle.breadth_queue.specs.Queues.{QueueAt, SomeQueueAt, QueueScanned, CanSearch, Ended}
-use Rattle.walks.proofs.Begins.{begins, refused-promised, taken-promised}
+use Rattle.walks.proofs.Begins.{begins}
 use Rattle.walks.proofs.Storing.{all-cleared}
 use Rattle.walks.proofs.Writing.{Emits, Puts, Starts, held-total, held-labels, held-lengths}
 use Rattle.walks.proofs.Reading.{target}
@@ -91,7 +90,7 @@ pub record AtFew (g : Image) (queue t : List ℕ) : Type 0 where
   pub few : total t ≤ 10000
   pub labels : get_or t 0 0 ≤ g.n
   pub few_vertices : g.n ≤ 1000
-  pub long-queue : g.n ≤ length queue
+  pub long_queue : g.n ≤ length queue
 
 -- v is the first that waits.
 record First (v : ℕ) (waits : List ℕ) : Type 0 where
@@ -119,12 +118,12 @@ module _ {g : Image} {before : List ℕ} {start i : ℕ} {marks₀ queue₀ even
   pub at-lengths : (length marks ≡ length marks₀) × ((length queue ≡ length queue₀) × (length events ≡ length events₀))
   at-lengths = let l = held-lengths A.held A.roomy at_room in (l.0, (at-queue, l.1))
 
-  pub at-few : AtFew g queue t
-  at-few = record {
+  pub at_few : AtFew g queue t
+  at_few = record {
     few = omega (arith, held-total A.held, at_room, A.roomy.few);
     labels = at-labels;
     few_vertices = A.sound.few_vertices;
-    long-queue = omega (arith, at-queue, A.long);
+    long_queue = omega (arith, at-queue, A.long);
   }
 
   -- All that were labelled are scanned: the search has ended.
@@ -172,8 +171,14 @@ pub record Turn (g : Image) (marks queue t : List ℕ) (e x : ℕ) : Type 0 wher
   pub long_after : g.n + g.m ≤ length g.after
   pub long_tail : g.m ≤ length g.tail
   pub long_marks : g.n + g.m ≤ length marks
-  pub long-queue : g.n ≤ length queue
+  pub long_queue : g.n ≤ length queue
   pub few : suc (total t) ≤ 10000
+
+-- So does what is read before the first.
+pub record FirstRead (g : Image) (v : ℕ) : Type 0 where
+  pub low : 1 ≤ v
+  pub high : v ≤ g.n
+  pub long_after : g.n + g.m ≤ length g.after
 
 -- Within a scan, with equal areas.
 scan-as : {g : Image} {before : List ℕ} {start v i : ℕ} {marks₀ queue₀ events₀ marks queue events t₀ t marks' queue' events' t' : List ℕ} {e : ℕ}
@@ -267,7 +272,7 @@ module _ {g : Image} {v : ℕ} {marks queue events t : List ℕ} (P : SomeQueueA
               long_after = A.sound.long_after;
               long_tail = A.sound.long_tail;
               long_marks = omega (arith, A.roomy.long_marks);
-              long-queue = omega (arith, A.long);
+              long_queue = omega (arith, A.long);
               few = scan-few I;
             }
 
@@ -309,25 +314,21 @@ module _ {g : Image} {v : ℕ} {marks queue events t : List ℕ} (P : SomeQueueA
             }
 
 -- What the loop of a scan keeps, whatever the search and the areas as lent.
-abbrev pub ScanKept : Image → ℕ → (marks queue events t marks' queue' events' t' : List ℕ) → ℕ → Type 0
-ScanKept g v marks queue events t marks' queue' events' t' e =
-    (before : List ℕ) (start i : ℕ) (marks₀ queue₀ events₀ : List ℕ) → QueueAt g before start i marks₀ queue₀ events₀ marks queue events t
-    → ScanAt g before start v i marks₀ queue₀ events₀ marks' queue' events' t t' e
+pub record ScanKept (g : Image) (v : ℕ) (marks queue events t marks' queue' events' t' : List ℕ) (e : ℕ) : Type 0 where
+  pub within : {before : List ℕ} {start i : ℕ} {marks₀ queue₀ events₀ : List ℕ} → QueueAt g before start i marks₀ queue₀ events₀ marks queue events t
+      → ScanAt g before start v i marks₀ queue₀ events₀ marks' queue' events' t t' e
 
 module _ {g : Image} {v : ℕ} {marks queue events t : List ℕ} (P : SomeQueueAt g v marks queue events t) where
   -- v is a vertex.
-  pub kept-first : Vertex g.n v × ((g.n ≤ 1000) × (g.n + g.m ≤ length g.after))
-  kept-first = (vertex P P.is, (P.is.sound.few_vertices, P.is.sound.long_after))
+  pub kept-first : FirstRead g v
+  kept-first = let w = vertex P P.is in record { low = w.0; high = w.1; long_after = P.is.sound.long_after }
 
   module _ {marks' queue' events' t' : List ℕ} {e : ℕ} (K : ScanKept g v marks queue events t marks' queue' events' t' e) where
     now : ScanAt g P.before P.start v P.i P.marks₀ P.queue₀ P.events₀ marks' queue' events' t t' e
-    now = K P.before P.start P.i P.marks₀ P.queue₀ P.events₀ P.is
+    now = K.within P.is
 
-    pub kept-turn : e ≢ 0 → Turn g marks' queue' t' e (target g e)
-    kept-turn = scan-turn P P.is now
-
-    pub kept-lengths : (length marks' ≡ length marks) × ((length queue' ≡ length queue) × (length events' ≡ length events))
-    kept-lengths = scan-lengths P P.is now
+    pub kept_turn : e ≢ 0 → Turn g marks' queue' t' e (target g e)
+    kept_turn = scan-turn P P.is now
 
     -- The edge e is traversed.
     module _ {events₁ t₁ : List ℕ} (ne : e ≢ 0) (one : Emits 7 e v events' t' events₁ t₁) where
@@ -338,46 +339,37 @@ module _ {g : Image} {v : ℕ} {marks queue events t : List ℕ} (P : SomeQueueA
       -- That vertex is labelled already.
       pub kept-pass : {marks₂ queue₂ events₂ t₂ : List ℕ} → get_or marks' (target g e - 1) 0 ≢ 0 → marks₂ ≡ marks' → queue₂ ≡ queue' → events₂ ≡ events₁ → t₂ ≡ t₁
           → ScanKept g v marks queue events t marks₂ queue₂ events₂ t₂ (get_or g.after (e - 1) 0)
-      kept-pass k a b c d before start i marks₀ queue₀ events₀ A = scan-as (scan-pass P A (K before start i marks₀ queue₀ events₀ A) ne one k) a b c d
+      kept-pass k a b c d = record { within = λ A. scan-as (scan-pass P A (K.within A) ne one k) a b c d }
 
       pub pass-falls : {t₂ : List ℕ} → t₂ ≡ t₁ → 10000 - total t₂ < 10000 - total t'
-      pass-falls d = omega (arith, crossed-total (I P P.is now ne) one, ap total d, (kept-turn ne).few)
+      pass-falls d = omega (arith, crossed-total (I P P.is now ne) one, ap total d, (kept_turn ne).few)
 
       -- It is not: it is labelled and queued.
       module _ {marks₁ events₃ t₃ : List ℕ} (k : get_or marks' (target g e - 1) 0 ≡ 0) (two : Puts (target g e) marks' events₁ t₁ marks₁ events₃ t₃) where
         pub kept-join : {marks₂ queue₂ events₂ t₂ : List ℕ} → marks₂ ≡ marks₁ → queue₂ ≡ set queue' (get_or t₁ 0 0) (target g e) → events₂ ≡ events₃ → t₂ ≡ t₃
             → ScanKept g v marks queue events t marks₂ queue₂ events₂ t₂ (get_or g.after (e - 1) 0)
-        kept-join a b c d before start i marks₀ queue₀ events₀ A = scan-as (scan-join P A (K before start i marks₀ queue₀ events₀ A) ne one k two) a b c d
+        kept-join a b c d = record { within = λ A. scan-as (scan-join P A (K.within A) ne one k two) a b c d }
 
         pub join-falls : {t₂ : List ℕ} → t₂ ≡ t₃ → 10000 - total t₂ < 10000 - total t'
-        join-falls d = omega (arith, edge-total (I P P.is now ne) one k two, ap total d, (kept-turn ne).few)
+        join-falls d = omega (arith, edge-total (I P P.is now ne) one k two, ap total d, (kept_turn ne).few)
 
 -- ---- the whole search
--- What the loop of the search keeps, whatever the start and the areas as lent.
-abbrev pub SearchKept : Image → List ℕ → (i₀ : ℕ) (marks queue events t : List ℕ) (i : ℕ) (marks' queue' events' t' : List ℕ) → Type 0
-SearchKept g before i₀ marks queue events t i marks' queue' events' t' =
-    (start : ℕ) (marks₀ queue₀ events₀ : List ℕ) → QueueAt g before start i₀ marks₀ queue₀ events₀ marks queue events t → QueueAt g before start i marks₀ queue₀ events₀ marks' queue' events' t'
-
-module _ {g : Image} {before : List ℕ} {start : ℕ} {marks queue events : List ℕ} (C : CanSearch g before start marks queue events) where
-  -- The start is labelled, and is the first of the queue.
-  module _ {marks' queue' events' t : List ℕ} (clears : queue' ≡ cleared (min g.n (length queue)) queue) (starts : Starts (g.n + g.m) before start marks events marks' events' t) where
-    search-start : QueueAt g before start 0 marks queue events marks' (set queue' 0 start) events' t
-    search-start = record {
-      sound = C.sound;
-      start_vertex = C.start_vertex;
-      roomy = C.roomy;
-      long = C.long;
-      h = [] ▸ event label 0 start;
-      waits = start ∷ [];
-      waiting = first-waits g C.sound before start C.start_vertex C.listed;
-      held = first-held g C.sound before start C.start_vertex C.listed C.roomy starts;
-      queue_left = ap (λ (l : List ℕ). set l 0 start) (clears ∙ all-cleared g.n queue C.long) ∙ queue-start g.n queue start (omega (arith, C.start_vertex));
-      place = refl;
-    }
-
-    pub search-at : {i : ℕ} {marks'' queue'' events'' t'' : List ℕ} → SearchKept g before 0 marks' (set queue' 0 start) events' t i marks'' queue'' events'' t''
-        → QueueAt g before start i marks queue events marks'' queue'' events'' t''
-    search-at K = K start marks queue events search-start
+-- The start is labelled, and is the first of the queue.
+pub search-start : {g : Image} {before : List ℕ} {start nodes : ℕ} {marks queue events marks' queue' events' t : List ℕ} → CanSearch g before start marks queue events → nodes ≡ g.n + g.m → queue' ≡ cleared (min g.n (length queue)) queue
+    → Starts nodes before start marks events marks' events' t
+    → QueueAt g before start 0 marks queue events marks' (set queue' 0 start) events' t
+search-start {g} {before} {start} {nodes} {marks} {queue} {events} {marks'} {queue'} {events'} {t} C all clears starts = record {
+  sound = C.sound;
+  start_vertex = C.start_vertex;
+  roomy = C.roomy;
+  long = C.long;
+  h = [] ▸ event label 0 start;
+  waits = start ∷ [];
+  waiting = first-waits g C.sound before start C.start_vertex C.listed;
+  held = first-held g C.sound before start C.start_vertex C.listed C.roomy (subst (λ (k : ℕ). Starts k before start marks events marks' events' t) all starts);
+  queue_left = ap (λ (l : List ℕ). set l 0 start) (clears ∙ all-cleared g.n queue C.long) ∙ queue-start g.n queue start (omega (arith, C.start_vertex));
+  place = refl;
+}
 
 -- The next that waits can be scanned.
 pub search-scan : {g : Image} {before : List ℕ} {start i : ℕ} {marks₀ queue₀ events₀ marks queue events t : List ℕ} → QueueAt g before start i marks₀ queue₀ events₀ marks queue events t
@@ -401,25 +393,11 @@ search-more {g} {before} {start} {i} {marks₀} {queue₀} {events₀} {marks} {
 
 -- And events were added.
 pub search-less : {g : Image} {before : List ℕ} {start i : ℕ} {marks₀ queue₀ events₀ marks queue events t t' : List ℕ} → QueueScanned g before start i marks₀ queue₀ events₀ marks queue events t t' → (total t < total t') × (total t' ≤ 10000)
-search-less Q = (Q.more, (at-few Q.is).few)
+search-less Q = (Q.more, (at_few Q.is).few)
 
 -- ---- the walk
-module _ (g : Image) (before : List ℕ) (start : ℕ) (marks queue events : List ℕ) {j : ℕ} (is : j ≡ walk_number g before start marks events (lent g.n queue ∷ [])) where
-  -- What the walk leaves in the queue area.
-  abbrev Queued : Walked → List ℕ → Type 0
-  Queued r queue' = queue' ≡ unless_refused r.number (queue_left g.n (breadth_walk g before start) queue) queue
-
-  -- A walk refused leaves all as it was.
-  pub walk_refused : {r : Walked} → (r.number ≡ j) × (r.tally ≡ no_events) → j ≢ 0 → BreadthPromise g before start (lent g.n queue ∷ []) marks events r marks events × Queued r queue
-  walk_refused {r} f ne = (refused-promised is ne f, refused r.number (queue_left g.n (breadth_walk g before start) queue) queue (λ e. ne (sym f.0 ∙ e)))
-
-  -- A walk taken can begin.
-  pub walk_begins : j ≡ 0 → CanSearch g before start marks queue events
-  walk_begins z =
-      let B = begins g before start marks events (lent g.n queue ∷ []) (sym is ∙ z) in
-      record { sound = B.sound; start_vertex = B.start_vertex; listed = B.listed; roomy = B.breadth-room; long = (long g.n queue [] B.own-long).0 }
-
-  -- And leaves what the search leaves.
-  pub walk_ends : {marks' queue' events' t : List ℕ} → j ≡ 0 → Ended g before start marks queue events marks' queue' events' t
-      → (let r : Walked = record { number = 0; tally = t } in BreadthPromise g before start (lent g.n queue ∷ []) marks events r marks' events' × Queued r queue')
-  walk_ends z E = (taken-promised (sym is ∙ z) refl E.held, E.queue_left)
+-- A walk taken can begin.
+pub can_begin : (g : Image) (before : List ℕ) (start : ℕ) (marks queue events : List ℕ) → 0 ≡ walk_number g before start marks events (lent g.n queue ∷ []) → CanSearch g before start marks queue events
+can_begin g before start marks queue events taken =
+    let B = begins g before start marks events (lent g.n queue ∷ []) (sym taken) in
+    record { sound = B.sound; start_vertex = B.start_vertex; listed = B.listed; roomy = B.breadth-room; long = (long g.n queue [] B.own-long).0 }

@@ -7,74 +7,66 @@
 ghost use Rattle.std.specs.Prelude.{◌≡◌, [], ◌∷◌};
 ghost use Rattle.graphs.specs.Refusals.{lent, unless_refused};
 ghost use Rattle.graphs.specs.Results.{queue_left};
-ghost use Rattle.images.specs.Checking.{image};
-ghost use Rattle.walks.specs.Promises.{breadth_walk, BreadthPromise};
+ghost use Rattle.refusals.specs.Numbers.{number_in};
+ghost use Rattle.images.specs.Checking.{image_of};
+ghost use Rattle.walks.specs.Promises.{breadth_walk, walked_of, BreadthPromise};
 ghost use Rattle.breadth_queue.specs.Queues.{SomeQueueAt, Scans, CanSearch, Ended};
 
-use images::{Edge, Vertex};
-use walks::{Walked, begin, clear, emit, label, refused, walk_number};
+use images::{Edge, Image, Vertex};
+use refusals::Refusal;
+use walks::{Kind, begin, check_walk, clear, emit, label};
 
 // Scans v: traverses each edge on its list, and labels and queues the vertex that it leads to where that is not labelled.
+#[tactic(auto, using(crate::proofs::Queueing::kept_turn))]
 fn scan_vertex(
-    n: u16,
-    m: u16,
+    g: &Image,
     v: Vertex,
-    after: &[u16],
-    tail: &[u16],
     marks: &mut [u16],
     queue: &mut [u16],
     events: &mut [u16],
     tally: [u32; 7],
 ) -> [u32; 7]
-    requires { SomeQueueAt (image n m after.now tail.now) v.0 marks.old queue.old events.old tally }
-    ensures { Scans (image n m after.now tail.now) marks.old queue.old events.old tally
+    requires { SomeQueueAt (image_of g.now) v.0 marks.old queue.old events.old tally }
+    ensures { Scans (image_of g.now) marks.old queue.old events.old tally
         marks.new queue.new events.new result }
 {
     let mut t = tally;
-    let i = v.0 as usize - 1;
-    let mut e = after[i];
+    let mut e = g.after[v.0 as usize - 1];
     while e != 0 {
-        let a = emit(events, 7, Edge(e), v, t);
-        t = a;
-        let j = e as usize - n as usize - 1;
-        let x = tail[j];
+        t = emit(events, Kind::Traverse as u16, Edge(e), v, t);
+        let x = g.tail[e as usize - g.n as usize - 1];
         let l = x as usize - 1;
         if marks[l] == 0 {
             let last = t[0] as usize;
             queue[last] = x;
-            let b = label(marks, events, Vertex(x), t);
-            t = b;
+            t = label(marks, events, Vertex(x), t);
         }
-        let k = e as usize - 1;
-        e = after[k];
+        e = g.after[e as usize - 1];
     }
-    emit(events, 6, Edge(0), v, t)
+    emit(events, Kind::Scan as u16, Edge(0), v, t)
 }
 
 // The whole search.
 fn search(
-    n: u16,
-    m: u16,
-    start: Vertex,
-    after: &[u16],
-    tail: &[u16],
+    g: &Image,
     before: &[u16],
+    start: Vertex,
     marks: &mut [u16],
     queue: &mut [u16],
     events: &mut [u16],
 ) -> [u32; 7]
-    requires { CanSearch (image n m after.now tail.now) before.now start.0 marks.old queue.old events.old }
-    ensures { Ended (image n m after.now tail.now) before.now start.0
+    requires { CanSearch (image_of g.now) before.now start.0 marks.old queue.old events.old }
+    ensures { Ended (image_of g.now) before.now start.0
         marks.old queue.old events.old marks.new queue.new events.new result }
 {
-    clear(queue, n as usize);
-    let mut tally = begin(marks, events, n as usize + m as usize, before, start);
+    clear(queue, g.n as usize);
+    let mut tally = begin(marks, events, g.nodes(), before, start);
     queue[0] = start.0;
     let mut i: usize = 0;
+    // A range is fixed when it begins, and this bound grows while vertices are queued.
     while i < tally[0] as usize {
         let x = queue[i];
-        let t = scan_vertex(n, m, Vertex(x), after, tail, marks, queue, events, tally);
-        tally = t;
+        tally = scan_vertex(g, Vertex(x), marks, queue, events, tally);
         i += 1;
     }
     tally
@@ -83,29 +75,19 @@ fn search(
 // Breadth-first search of a linked image from start, with the elements already on the blank and n queue words. Refused by 1, 2, 3 (all
 // areas), 4, 5, 6, 7, 17, 18.
 pub fn bfs_queue(
-    n: u16,
-    m: u16,
-    start: Vertex,
-    after: &[u16],
-    tail: &[u16],
+    g: &Image,
     before: &[u16],
+    start: Vertex,
     marks: &mut [u16],
     queue: &mut [u16],
     events: &mut [u16],
-) -> Walked
-    ensures walk { BreadthPromise (image n m after.now tail.now) before.now start.0 (lent n queue.old ∷ [])
-        marks.old events.old result marks.new events.new }
-    ensures queue { queue.new ≡ unless_refused result.number
-        (queue_left n (breadth_walk (image n m after.now tail.now) before.now start.0) queue.old) queue.old }
+) -> Result<[u32; 7], Refusal>
+    ensures walk { BreadthPromise (image_of g.now) before.now start.0 (lent g.now.n queue.old ∷ [])
+        marks.old events.old (walked_of result) marks.new events.new }
+    ensures queue { queue.new ≡ unless_refused (number_in result)
+        (queue_left g.now.n (breadth_walk (image_of g.now) before.now start.0) queue.old) queue.old }
 {
-    let long = n as usize <= queue.len();
-    let k = walk_number(n, m, start, after, tail, before, marks, events, long);
-    if k != 0 {
-        return refused(k);
-    }
-    let tally = search(n, m, start, after, tail, before, marks, queue, events);
-    Walked {
-        number: 0,
-        tally: tally,
-    }
+    let long = g.n as usize <= queue.len();
+    check_walk(g, before, start, marks, events, long)?;
+    Ok(search(g, before, start, marks, queue, events))
 }
