@@ -22,7 +22,7 @@ use Rattle.graphs.proofs.Breadth.{breadth-first}
 use Rattle.graphs.proofs.Untouched.{untouched}
 use Rattle.graphs.proofs.Arrays.{array_same}
 use Rattle.graphs.proofs.Renamed.{converted-search}
-use Rattle.walks.specs.declared.write.Walked.{Walked}
+use Rattle.walks.specs.Promises.{Walked}
 use Rattle.walks.specs.Promises.{written_areas, tallied, Promised}
 use Rattle.walkers.specs.Claims.{TakenClaim, Fits, WalkClaim, ArrayWalkClaim, ConvertedClaim, told_by, SameWalk, SameClaim, TurnedBackClaim}
 use Rattle.walks.specs.Writing.{Roomy}

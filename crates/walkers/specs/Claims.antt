@@ -9,7 +9,7 @@ use Rattle.graphs.specs.Image.{Image, SameLinks, graph_of}
 use Rattle.graphs.specs.ArrayForm.{ArrayForm, array_graph, array_left, numbers_left}
 use Rattle.graphs.specs.Refusals.{Lent, short, image_areas, sound}
 use Rattle.graphs.specs.Claims.{DepthClaim, BreadthClaim, Unnamed, Untouched, SameSearch}
-use Rattle.walks.specs.declared.write.Walked.{Walked}
+use Rattle.walks.specs.Promises.{Walked}
 use Rattle.walks.specs.Promises.{written_areas, walk_number, array_walk_number, depth_walk, array_walk, breadth_walk, DepthPromise, BreadthPromise, ArrayPromise}
 
 -- A walk of a linked image is taken exactly where the profile, with the elements already on the blank, is sound and every area is as long

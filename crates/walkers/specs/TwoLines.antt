@@ -10,7 +10,7 @@ use Rattle.graphs.specs.Events.{History, words}
 use Rattle.graphs.specs.Circles.{Circular, circular_of}
 use Rattle.graphs.specs.Results.{marks_first, marks_left, marks_now}
 use Rattle.graphs.specs.Image.{Image, SameLinks, graph_of}
-use Rattle.walks.specs.declared.write.Walked.{Walked}
+use Rattle.walks.specs.Promises.{Walked}
 use Rattle.walks.specs.Promises.{depth_walk, DepthPromise}
 use Rattle.folding.specs.Machine.{Config, finished, rolled_back}
 use Rattle.folding.specs.Calls.{Answer, taken, Call, run_for, open_number}
