@@ -26,8 +26,7 @@ use Rattle.graphs.proofs.Sound.{head0, Linked, linked-rest, Sound}
 use Rattle.graphs.proofs.Places.{Frame, frame, entering, path, Above, of-rest}
 use Rattle.graphs.proofs.Room.{profile-ready}
 use Rattle.graphs.proofs.Trees.{AllTrees, all-trees}
-use Rattle.walks.specs.declared.write.Walked.{Walked}
-use Rattle.walks.specs.Promises.{walk_number, depth_walk, DepthPromise}
+use Rattle.walks.specs.Promises.{Walked, walk_number, depth_walk, DepthPromise}
 use Rattle.walks.specs.Writing.{no_events, total}
 use Rattle.depth_parent.specs.declared.Place.{Place}
 use Rattle.depth_parent.specs.Parents.{Entered, place, ParentAt, SomeParentAt, Goes, CanSearch, Ended}
@@ -158,7 +157,7 @@ module _ {g : Image} {before : List ℕ} {start : ℕ} {marks₀ parents₀ even
       let e = moves.move-lengths A.underway in
       (e.0, (ap length A.parents_left ∙ length-filled (parent_word (graph_of g) A.h) g.n parents₀ A.long, e.1))
 
-  pub place-bounds : Bounds g p.v.0 marks parents
+  place-bounds : Bounds g p.v.0 marks parents
   place-bounds =
       let S = A.sound in
       record {
@@ -190,7 +189,7 @@ module _ {g : Image} {before : List ℕ} {start : ℕ} {marks₀ parents₀ even
     is-target : to g p.e.0 ≡ x
     is-target = target_is g p.e.0
 
-    pub place-ahead : Ahead g p.e.0
+    place-ahead : Ahead g p.e.0
     place-ahead =
         let P = ahead.scene.placed in
         let e : Edge g.n g.m p.e.0 = edge_of A.sound p.v.0 p.e.0 A.done N.later P.vertex P.list in
@@ -291,7 +290,7 @@ module _ {g : Image} {before : List ℕ} {start : ℕ} {marks₀ parents₀ even
       pub retreat-few : 2 + total p.tally ≤ 10000
       retreat-few = moves.back-few behind
 
-      pub retreat-edge : Edge g.n g.m p.f.0
+      retreat-edge : Edge g.n g.m p.f.0
       retreat-edge = let a = behind.scene.placed.above in edge_of A.sound back p.f.0 top.passed top.ahead a.1 a.2
 
       -- The parent word of v is the trailer of the vertex that the search goes back to.
@@ -311,7 +310,7 @@ module _ {g : Image} {before : List ℕ} {start : ℕ} {marks₀ parents₀ even
           go (frame u du r ru ∷ s) e a = absurd (let k = edge_of A.sound u r du ru a.1 a.2 in let q : r ≡ 0 = e in omega arith)
 
       module _ (ne : get_or parents (p.v.0 - 1) 0 ≡ 0 → ⊥) where
-        pub back-edge : Edge g.n g.m (get_or parents (p.v.0 - 1) 0)
+        back-edge : Edge g.n g.m (get_or parents (p.v.0 - 1) 0)
         back-edge = subst (Edge g.n g.m) (sym word_back) (trailer-edge A.sound start top.below back behind.scene.placed.above.3 (λ e. ne (word_back ∙ e)))
 
         pub back_target : target g (get_or parents (p.v.0 - 1) 0) ≡ back
@@ -389,11 +388,14 @@ module _ {g : Image} {start : ℕ} {marks parents events marks' parents' events'
   pub goes_some : SomeParentAt g start marks' parents' events' p'
   goes_some = record { before = S.before; marks₀ = S.marks₀; parents₀ = S.parents₀; events₀ = S.events₀; is = k S.before S.marks₀ S.parents₀ S.events₀ S.is }
 
-  pub goes-lengths : (length marks' ≡ length marks) × ((length parents' ≡ length parents) × (length events' ≡ length events))
-  goes-lengths =
-      let a = place-lengths S.is in
-      let b = place-lengths (k S.before S.marks₀ S.parents₀ S.events₀ S.is) in
-      (b.0 ∙ sym a.0, (b.1.0 ∙ sym a.1.0, b.1.1 ∙ sym a.1.1))
+-- What a move along the next edge reads and writes, and what one back along the trailer does.
+module _ {g : Image} {start : ℕ} {marks parents events : List ℕ} {p : Place} where
+  pub advance-reads : SomeParentAt g start marks parents events p × (p.e.0 ≢ 0) → Bounds g p.v.0 marks parents × Ahead g p.e.0
+  advance-reads z = (place-bounds z.0.is, place-ahead z.0.is z.1)
+
+  pub retreat-reads : SomeParentAt g start marks parents events p × (p.e.0 ≡ 0) × (p.f.0 ≢ 0)
+      → Bounds g p.v.0 marks parents × Edge g.n g.m p.f.0 × (get_or parents (p.v.0 - 1) 0 ≢ 0 → Edge g.n g.m (get_or parents (p.v.0 - 1) 0))
+  retreat-reads z = (place-bounds z.0.is, retreat-edge z.0.is z.1 z.2, back-edge z.0.is z.1 z.2)
 
 pub some_at : {g : Image} {before : List ℕ} {start : ℕ} {marks₀ parents₀ events₀ marks parents events : List ℕ} {p : Place} → ParentAt g before start marks₀ parents₀ events₀ marks parents events p → SomeParentAt g start marks parents events p
 some_at {before = before} {marks₀ = marks₀} {parents₀ = parents₀} {events₀ = events₀} A = record { before = before; marks₀ = marks₀; parents₀ = parents₀; events₀ = events₀; is = A }

@@ -21,8 +21,7 @@ use Rattle.graphs.proofs.Labels.{Labels, label-ok, labels-few}
 use Rattle.graphs.proofs.Sound.{Sound, head0, Linked, edges_left, left-falls, graph-closed}
 use Rattle.graphs.proofs.DepthGrowth.{search-adds, search-labels}
 use Rattle.graphs.proofs.Places.{deep, walk, edges-add, suffix-length, can-search, deep-unroll}
-use Rattle.walks.specs.declared.write.Walked.{Walked}
-use Rattle.walks.specs.Promises.{walk_number, DepthPromise}
+use Rattle.walks.specs.Promises.{Walked, walk_number, DepthPromise}
 use Rattle.walks.specs.Writing.{no_events, blanks_marked, Held, Roomy}
 use Rattle.depth_recursive.specs.Recursive.{searched, crossed, Searching, CanSearch, Traversing, CanTraverse}
 use Rattle.walks.proofs.Reading.{target, target_is}
@@ -145,11 +144,6 @@ module _ {g : Image} {before : List ℕ} {r u : ℕ} {h : History} {marks₀ eve
       tree_falls = omega (arith, held-labels advanced, held-labels T.held)
 
       module _ {marks'' events'' t'' : List ℕ} (D : Held (g.n + g.m) before (searched g before (target g r) (h ▸ event advance_tree r u)) marks₀ events₀ marks'' events'' t'') where
-        pub tree-lengths : (length marks'' ≡ length marks) × (length events'' ≡ length events)
-        tree-lengths =
-            let a = edge-lengths in
-            let b = held-lengths D T.roomy (omega (arith, ap length returning)) in (b.0 ∙ sym a.0, b.1 ∙ sym a.1)
-
         pub tree-held : {events''' t''' : List ℕ} → Emits 5 r u events'' t'' events''' t''' → Held (g.n + g.m) before (crossed g before r u h) marks₀ events₀ marks'' events''' t'''
         tree-held {events'''} {t'''} f =
             subst (λ (i : History). Held (g.n + g.m) before i marks₀ events₀ marks'' events''' t''') (sym returning)
@@ -189,13 +183,6 @@ module _ {g : Image} {before : List ℕ} {u : ℕ} {h : History} {marks₀ event
   search-room : suc (suc (length h)) ≤ length (searched g before u h)
   search-room = omega (arith, ap length unrolled, suffix-length (edges-add (graph_of g) before u (edges_of g u) (h ▸ event label 0 u)))
 
-  pub search-lengths : (length marks ≡ length marks₀) × (length events ≡ length events₀)
-  search-lengths = held-lengths S.held S.roomy (omega (arith, search-room))
-
-  -- The first edge is read where the after area has a word.
-  pub search-reads : (0 < u) × (u ≤ 1000) × (u ≤ length g.after)
-  search-reads = omega (arith, S.vertex, S.sound.few_vertices, S.sound.long_after)
-
   -- u is labelled.
   pub search-begins : {marks' events' t' : List ℕ} → Puts u marks events t marks' events' t' → Underway g before u h marks₀ events₀ marks' events' t' (get_or g.after (u - 1) 0)
   search-begins e = record {
@@ -234,11 +221,7 @@ module _ {g : Image} {before : List ℕ} {u : ℕ} {h : History} {marks₀ event
   scan-room : suc (length U.so_far) ≤ length (searched g before u h)
   scan-room = omega (arith, ap length U.future, suffix-length (edges-add (graph_of g) before u U.rest U.so_far))
 
-  pub way-lengths : (length marks ≡ length marks₀) × (length events ≡ length events₀)
-  way-lengths = held-lengths U.held U.roomy (omega (arith, scan-room))
-
   -- The scan ends the search.
-
   pub way-ends : r ≡ 0 → {events' t' : List ℕ} → Emits 6 0 u events t events' t' → Held (g.n + g.m) before (searched g before u h) marks₀ events₀ marks events' t'
   unfolding walk_edges
   way-ends e {events'} {t'} f = go U.rest U.next U.listed U.future

@@ -4,4 +4,4 @@ use Rattle.depth_parent.proofs.Parents.{open_at}
 use Rattle.depth_parent.proofs.open.Goals as goal
 
 pub returns : goal.returns
-returns c = open_at c.requires c.clear.ensures (c.begin-t.ensures.tally, (c.begin-t.ensures.marks, c.begin-t.ensures.events))
+returns c = let b = c.begin-tally.ensures in open_at c.requires c.clear.ensures (b.tally, (rw c.nodes.ensures.count at b.marks, b.events))
