@@ -1,2 +1,1 @@
-pub mod Storing
-pub mod Numbers
+pub mod Handing

@@ -54,7 +54,8 @@ pub fn dfs_recursive_in_words(
     if counts.len() < 7 {
         return number(check_walk(&g, before, Vertex(start), marks, events, false));
     }
-    hand_over(dfs_recursive(&g, before, Vertex(start), marks, events), counts)
+    let w = dfs_recursive(&g, before, Vertex(start), marks, events);
+    hand_over(w, counts)
 }
 
 // `walkers::dfs_parent`.
@@ -79,7 +80,8 @@ pub fn dfs_parent_in_words(
     if counts.len() < 7 {
         return number(check_walk(&g, before, Vertex(start), marks, events, false));
     }
-    hand_over(dfs_parent(&g, before, Vertex(start), marks, parents, events), counts)
+    let w = dfs_parent(&g, before, Vertex(start), marks, parents, events);
+    hand_over(w, counts)
 }
 
 // `walkers::dfs_array`.
@@ -102,10 +104,16 @@ pub fn dfs_array_in_words(
         (increment_left (array_graph (array_in n m firsts.now tails.old)) (array_walk (array_in n m firsts.now tails.old) before.now start) increments.old) increments.old }
 {
     if counts.len() < 7 {
-        let a = ArrayForm { n, m, firsts: &[], tails };
+        let a = ArrayForm {
+            n,
+            m,
+            firsts: &firsts[..0],
+            tails: &*tails,
+        };
         return number(check_array_walk(&a, before, Vertex(start), marks, increments, events));
     }
-    hand_over(dfs_array(n, m, firsts, tails, before, Vertex(start), marks, increments, events), counts)
+    let w = dfs_array(n, m, firsts, tails, before, Vertex(start), marks, increments, events);
+    hand_over(w, counts)
 }
 
 // `walkers::bfs_queue`.
@@ -130,7 +138,8 @@ pub fn bfs_queue_in_words(
     if counts.len() < 7 {
         return number(check_walk(&g, before, Vertex(start), marks, events, false));
     }
-    hand_over(bfs_queue(&g, before, Vertex(start), marks, queue, events), counts)
+    let w = bfs_queue(&g, before, Vertex(start), marks, queue, events);
+    hand_over(w, counts)
 }
 
 // `walkers::bfs_folded`.
@@ -150,8 +159,14 @@ pub fn bfs_folded_in_words(
     ensures after { after.new ≡ after.old }
 {
     if counts.len() < 7 {
-        let g = Image { n, m, after, tail };
+        let g = Image {
+            n,
+            m,
+            after: &*after,
+            tail,
+        };
         return number(check_walk(&g, before, Vertex(start), marks, events, false));
     }
-    hand_over(bfs_folded(n, m, after, tail, before, Vertex(start), marks, events), counts)
+    let w = bfs_folded(n, m, after, tail, before, Vertex(start), marks, events);
+    hand_over(w, counts)
 }
