@@ -10,6 +10,5 @@ pub use depth_array::dfs_array;
 pub use depth_parent::dfs_parent;
 pub use depth_recursive::dfs_recursive;
 pub use folded::{run, step};
-pub use scripts::replay;
-pub use states::{Answer, Reason, Reply, State, open, roll_back, state_number};
-pub use walks::Walked;
+pub use scripts::{Replayed, replay};
+pub use states::{Phase, Reason, Reply, State, check_state, open, roll_back};
