@@ -8,7 +8,7 @@ ghost use Rattle.report.specs.Report.{report_of, told, line_number, line_bytes, 
 ghost use Rattle.text_words.specs.Told.{sized, handed_sizes, word_unless, told_in};
 
 use report::{refusal_line, walk_text};
-use texts::{Profile, read_profile};
+use texts::read_profile;
 
 // `texts::read_profile`: the sizes and the start of a profile loaded are stored in three lent words.
 pub fn read_profile_in_words(
@@ -24,17 +24,13 @@ pub fn read_profile_in_words(
     ensures tails { tail.new ≡ tail_left (reading text.now after.old tail.old) tail.old }
 {
     match read_profile(text, after, tail) {
-        Profile::Refused(k) => k,
-        Profile::Loaded {
-            n: vertices,
-            m: edges,
-            start: first,
-        } => {
-            *n = vertices;
-            *m = edges;
-            *start = first.0;
+        Ok(profile) => {
+            *n = profile.n;
+            *m = profile.m;
+            *start = profile.start.0;
             0
         }
+        Err(refusal) => refusal.number(),
     }
 }
 
