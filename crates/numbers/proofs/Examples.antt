@@ -1,6 +1,6 @@
 -- The examples of numbers read and written, in two theorems.
 -- By computation on the definitions.
-use mathlib.Core.Path.{refl}
+use Rattle.std.proofs.Common.{refl}
 use Rattle.numbers.specs.Decimal.{decimal_length, written, number_at}
 use Rattle.numbers.specs.Examples.{examples, Said, SamplesClaim}
 

@@ -1,16 +1,11 @@
 -- A number written is read back, behind zeros too, and what is read is written again behind its zeros.
 -- By the digits' recursion: writing takes the last digit off, reading puts it on. A number's length is told by the powers of ten around it.
-use mathlib.Core.Path.{◌≡◌, refl, sym, ap, ◌∙◌}
-use mathlib.Core.Bool.{Bool, true, false, cond, not, and-false}
-use mathlib.Core.List.{List, [], ◌∷◌, ◌++◌, append_assoc, append-nil}
-use mathlib.Core.Option.{none, some}
-use Prim.Native.Nat.{ℕ, zero, suc, ◌+◌, ◌-◌, ◌*◌, ◌/◌, ◌%◌, ◌^◌, ◌≤◌, ◌<◌}
-use native.Mathlib.Omega.{arith}
+use Rattle.std.proofs.Common.{◌≡◌, refl, sym, ap, ◌∙◌, Bool, true, false, cond, not, List, [], ◌∷◌, ◌++◌, append_assoc, append-nil, ℕ, zero, suc, ◌+◌, ◌-◌, ◌*◌, ◌/◌, ◌%◌, ◌^◌, ◌≤◌, ◌<◌, arith, eqb, ltb, leb, length, drop, replicate, length-append, drop-drop, ltb-true, ltb-false, leb-true, lt-ltb, le-leb, ne_eqb}
+use Rattle.std.proofs.Math.Option.{none, some}
+use mathlib.Core.Bool.{and-false}
 use native.Mathlib.Nat.{pow-succ', pow-le-pow_right}
-use lib.Dec.{eqb, ltb, leb}
-use lib.ListN.{length, drop, replicate, length-append}
-use lib.Seq.{append_snoc, drop-drop}
-use borrow.Author.Tests.{ltb-true, ltb-false, leb-true, lt-ltb, le-leb, lt-leb, ne_eqb, eqb-false, not-true}
+use lib.Seq.{append_snoc}
+use borrow.Author.Tests.{lt-leb, eqb-false, not-true}
 use Rattle.lists.proofs.Tests.{clash, and-true, both, Compared, equal, other, compare}
 use Rattle.numbers.specs.Decimal.{divisions, decimal_length, digits, written, is_digit, digits_ahead, value_after, few, in_form, Field, field_of, number_at}
 use Rattle.numbers.specs.Padding.{padded}

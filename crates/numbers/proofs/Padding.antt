@@ -1,14 +1,9 @@
 -- Padding: a text without it begins with the digits as they are written, and goes on with what follows them, without padding.
 -- By the text's recursion; what follows digits is no digit, so that the digits that two equal texts begin with are equal.
-use mathlib.Core.Path.{◌≡◌, refl, sym, ap, ◌∙◌}
-use mathlib.Core.Bool.{Bool, true, false, cond, not, ◌&&◌, ◌||◌, and-true, and-false, or-false, or_assoc}
-use mathlib.Core.List.{List, [], ◌∷◌, ◌++◌, append_assoc, append-nil}
-use mathlib.Core.Option.{none, some, none-ne-some}
-use Prim.Native.Nat.{ℕ, zero, suc, ◌+◌, ◌≤◌, ◌<◌}
-use native.Mathlib.Omega.{arith}
-use lib.Dec.{eqb}
-use lib.ListN.{length, get_or, drop, replicate, length-append, length-drop}
-use lib.Seq.{append_snoc, drop-drop, drop-append_seam}
+use Rattle.std.proofs.Common.{◌≡◌, refl, sym, ap, ◌∙◌, Bool, true, false, cond, not, ◌&&◌, ◌||◌, List, [], ◌∷◌, ◌++◌, append_assoc, append-nil, ℕ, zero, suc, ◌+◌, ◌≤◌, ◌<◌, arith, eqb, length, get_or, drop, replicate, length-append, length-drop, drop-drop}
+use Rattle.std.proofs.Math.Option.{none, some, none-ne-some}
+use mathlib.Core.Bool.{and-true, and-false, or-false, or_assoc}
+use lib.Seq.{append_snoc, drop-append_seam}
 use borrow.Author.Tests.{not-true}
 use Rattle.lists.proofs.Tests.{clash, neither, Compared, equal, other, compare}
 use Rattle.numbers.specs.Decimal.{written, is_digit, digits_ahead, value_after, in_form, Field, number_at}

@@ -38,6 +38,7 @@ pub fn write_number(x: u16, area: &mut [u8], at: usize) -> usize
         return at;
     }
     let mut rest = x;
+    // By index: of bytes that are written through the area reversed a proof would know nothing afterwards.
     for i in (0..k).rev() {
         area[at + i] = b'0' + (rest % 10) as u8;
         rest /= 10;

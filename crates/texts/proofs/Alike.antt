@@ -1,13 +1,7 @@
 -- Texts that differ in padding only are refused or loaded alike: a text is read by its length and by what it says.
 -- One that is loaded has 4,000 references at most, so no padding makes it too long.
-use mathlib.Core.Path.{◌≡◌, sym, ◌∙◌}
-use mathlib.Core.Bool.{false, cond}
-use mathlib.Core.List.{List}
-use mathlib.Core.Option.{some}
-use Prim.Native.Nat.{ℕ, ◌≤◌}
-use native.Mathlib.Omega.{arith}
-use lib.ListN.{length}
-use borrow.Author.Tests.{le-ltb}
+use Rattle.std.proofs.Common.{◌≡◌, sym, ◌∙◌, false, cond, List, ℕ, ◌≤◌, arith, length, le-ltb}
+use Rattle.std.proofs.Math.Option.{some}
 use Rattle.graphs.specs.Refusals.{text_out}
 use Rattle.numbers.specs.Padding.{unpad}
 use Rattle.texts.specs.Text.{Listing, listing_of}

@@ -1,19 +1,14 @@
 -- Laws of the reader of a profile: what writing and linking value lines leaves, and what the parts read say of the whole text.
 -- Value lines are written one by one from the first, and linked one by one from the last.
-use mathlib.Core.Path.{◌≡◌, refl, sym, ap, ◌∙◌}
-use mathlib.Core.Bool.{Bool, false, cond}
-use mathlib.Core.List.{List, [], ◌∷◌, ◌++◌, map, append_assoc, map-append}
-use mathlib.Core.Option.{Option, none, some}
+use Rattle.std.proofs.Common.{◌≡◌, refl, sym, ap, ◌∙◌, Bool, false, cond, List, [], ◌∷◌, ◌++◌, map, append_assoc, ℕ, zero, suc, ◌+◌, ◌-◌, ◌≤◌, ◌<◌, arith, add-one, eqb, ltb, length, get_or, set, take, drop, replicate, length-append, length-drop, drop_of_length-le, length-take-le, take_all, take-suc, drop-cons, drop_at, eq-eqb, ne_eqb, ltb-false, lt-ltb, le-ltb}
+use Rattle.std.proofs.Math.Option.{Option, none, some}
+use mathlib.Core.List.{map-append}
 use Rattle.std.specs.Prelude as std
 use Rattle.std.specs.Prelude.{Err, ok_or}
 use Rattle.refusals.specs.declared.Refusal.{Refusal}
-use Prim.Native.Nat.{ℕ, zero, suc, ◌+◌, ◌-◌, ◌≤◌, ◌<◌}
-use native.Mathlib.Omega.{arith}
-use native.Mathlib.Numerals.{add-one}
-use lib.Dec.{eqb, ltb}
-use lib.ListN.{length, get_or, set, take, drop, replicate, length-append, length-drop, length-map, drop_of_length-le}
-use lib.Seq.{length-take-le, take_all, take-suc, drop-cons, drop_at, set_at, get_or_at}
-use borrow.Author.Tests.{eq-eqb, ne_eqb, not-false, ltb-false, lt-ltb, le-ltb}
+use lib.ListN.{length-map}
+use lib.Seq.{set_at, get_or_at}
+use borrow.Author.Tests.{not-false}
 use Rattle.lists.specs.Words.{at, put, overlay, pasted, cleared, values_from}
 use Rattle.lists.proofs.Tests.{Compared, equal, other, compare, both, neither}
 use Rattle.lists.proofs.Words.{but, values_same, values-zero, length-values, put-filled, at-filled, length-pasted, pasted-none, pasted-front, pasted-next}

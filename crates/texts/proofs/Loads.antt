@@ -1,16 +1,9 @@
 -- A profile loaded is sound, its lists have the edges of its value lines in line order, and its edges lead where the lines say.
 -- The after words of the lines chain those from one element; each line's edge stands on the list of its from alone, once.
-use mathlib.Core.Path.{◌≡◌, refl, sym, ap, ◌∙◌, subst}
-use mathlib.Core.Logic.{◌⊎◌, inl, inr}
-use mathlib.Core.Bool.{Bool, true, false, cond, not, ◌||◌}
-use mathlib.Core.List.{List, [], ◌∷◌, ◌++◌, map, append_assoc}
-use mathlib.Core.Option.{Option, none, some, some-injective, none-ne-some}
-use Prim.Native.Nat.{ℕ, zero, suc, ◌+◌, ◌-◌, ◌≤◌, ◌<◌}
-use native.Mathlib.Omega.{arith}
-use lib.Dec.{eqb, ltb}
-use lib.ListN.{length, get_or, drop, length-append, length-map}
-use lib.Seq.{drop-drop, drop_at, get_or-drop}
-use borrow.Author.Tests.{eq-eqb, ne_eqb, eqb-false, ltb-false, not-false}
+use Rattle.std.proofs.Common.{◌≡◌, refl, sym, ap, ◌∙◌, subst, ◌⊎◌, inl, inr, Bool, true, false, cond, not, ◌||◌, List, [], ◌∷◌, ◌++◌, map, append_assoc, ℕ, zero, suc, ◌+◌, ◌-◌, ◌≤◌, ◌<◌, arith, eqb, ltb, length, get_or, drop, length-append, drop-drop, drop_at, get_or-drop, eq-eqb, ne_eqb, ltb-false}
+use Rattle.std.proofs.Math.Option.{Option, none, some, some-injective, none-ne-some}
+use lib.ListN.{length-map}
+use borrow.Author.Tests.{eqb-false, not-false}
 use Rattle.lists.specs.Members.{Mem, here, there, cons_if}
 use Rattle.lists.specs.Counts.{bump, count_in}
 use Rattle.lists.specs.Words.{at, values_from, filled}

@@ -1,9 +1,6 @@
 -- Names and lines of values have no padding, and neither has what is written of a profile.
 -- Byte by byte and number by number, from the claims of padding alone.
-use mathlib.Core.Path.{◌≡◌, refl, ap, ◌∙◌}
-use mathlib.Core.Bool.{Bool, true, false, not, ◌&&◌, ◌||◌}
-use mathlib.Core.List.{List, [], ◌∷◌, ◌++◌, append_assoc}
-use Prim.Native.Nat.{ℕ}
+use Rattle.std.proofs.Common.{◌≡◌, refl, ap, ◌∙◌, Bool, true, false, not, ◌&&◌, ◌||◌, List, [], ◌∷◌, ◌++◌, append_assoc, ℕ}
 use borrow.Author.Tests.{not-true}
 use Rattle.lists.proofs.Tests.{both}
 use Rattle.numbers.specs.Decimal.{written, is_digit}

@@ -1,22 +1,15 @@
 -- Laws of reading a profile's text: one reading after another, names, fields, value lines.
 -- By what the first reading finds; along the names and along the value lines, one at a time.
-use mathlib.Core.Path.{◌≡◌, refl, sym, ap, ◌∙◌}
-use mathlib.Core.Bool.{Bool, true, false, not, cond, ◌&&◌, ◌||◌, or_assoc}
-use mathlib.Core.List.{List, [], ◌∷◌}
-use mathlib.Core.Option.{Option, none, some}
-use Prim.Native.Nat.{ℕ, suc, ◌+◌, ◌-◌, ◌≤◌, ◌<◌}
-use native.Mathlib.Omega.{arith}
+use Rattle.std.proofs.Common.{◌≡◌, refl, sym, ap, ◌∙◌, Bool, true, false, not, cond, ◌&&◌, ◌||◌, List, [], ◌∷◌, ℕ, suc, ◌+◌, ◌-◌, ◌≤◌, ◌<◌, arith, add-one, eqb, length, get_or, drop, length-drop, drop_of_length-le, take_all, Bor, eq-eqb, ne_eqb}
+use Rattle.std.proofs.Math.Option.{Option, none, some}
+use mathlib.Core.Bool.{or_assoc}
 use native.Mathlib.Nat.{sub-zero}
-use native.Mathlib.Numerals.{add-one}
-use lib.Dec.{eqb}
-use lib.ListN.{length, get_or, drop, length-drop, drop_of_length-le, get_or-eq_default}
-use lib.Seq.{take_all}
+use lib.ListN.{get_or-eq_default}
 use Rattle.std.specs.Prelude as std
 use Rattle.std.specs.Prelude.{nat_eq, unwrap_or}
 use Rattle.std.specs.List.{starts_with}
 use Rattle.std.specs.Slice.{IsGetRangeResult}
-use Rattle.std.proofs.Common.{Bor}
-use borrow.Author.Tests.{eq-eqb, ne_eqb, not-true, not-false}
+use borrow.Author.Tests.{not-true, not-false}
 use Rattle.lists.proofs.Tests.{clash, both, or-none}
 use Rattle.numbers.specs.Decimal.{number_at}
 use Rattle.texts.specs.Loading.{line_out, lines_out}

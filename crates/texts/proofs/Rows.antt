@@ -1,5 +1,5 @@
 -- The table of numbers, in one theorem: by computation on the definitions.
-use mathlib.Core.Path.{refl}
+use Rattle.std.proofs.Common.{refl}
 use Rattle.lists.specs.Rows.{AllAnswered}
 use Rattle.numbers.specs.Decimal.{number_at}
 use Rattle.texts.specs.Text.{listing_of, head_at, lines_at, line_at, field_at}

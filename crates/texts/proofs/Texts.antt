@@ -1,15 +1,9 @@
 -- A text says a profile exactly if it is what is written of that profile, but for padding; from the claims of numbers alone.
 -- By layers, number, field, line, lines, head: what lies ahead at a place, but for padding, is read, and what is read lay ahead.
-use mathlib.Core.Path.{◌≡◌, refl, sym, ap, ◌∙◌, subst}
-use mathlib.Core.Bool.{Bool, true, false, cond, not}
-use mathlib.Core.List.{List, [], ◌∷◌, ◌++◌, append_assoc}
-use mathlib.Core.Option.{Option, none, some}
-use Prim.Native.Nat.{ℕ, zero, suc, ◌+◌, ◌*◌, ◌≤◌, ◌<◌}
-use native.Mathlib.Omega.{arith}
-use lib.Dec.{eqb}
-use lib.ListN.{length, get_or, drop, length-drop, drop_of_length-le, get_or-eq_default}
-use lib.Seq.{drop-cons, drop-drop, get_or-drop}
-use borrow.Author.Tests.{eqb-true, eq-eqb, not-true}
+use Rattle.std.proofs.Common.{◌≡◌, refl, sym, ap, ◌∙◌, subst, Bool, true, false, cond, not, List, [], ◌∷◌, ◌++◌, append_assoc, ℕ, zero, suc, ◌+◌, ◌*◌, ◌≤◌, ◌<◌, arith, eqb, length, get_or, drop, length-drop, drop_of_length-le, drop-cons, drop-drop, get_or-drop, eqb-true, eq-eqb}
+use Rattle.std.proofs.Math.Option.{Option, none, some}
+use lib.ListN.{get_or-eq_default}
+use borrow.Author.Tests.{not-true}
 use Rattle.lists.proofs.Tests.{clash, and-true, both}
 use Rattle.numbers.specs.Decimal.{written, is_digit, digits_ahead, Field, number_at}
 use Rattle.numbers.specs.Padding.{unpad}

@@ -146,6 +146,7 @@ fn write_lines(text: &[u8], at: usize, n: u16, m: u16, after: &mut [u16], tail: 
 {
     let first = n as usize;
     let mut next = at;
+    // By index: of words that are written through two areas zipped a proof would know nothing afterwards.
     for k in 0..m as usize {
         let Some(line) = read_line(text, next) else {
             return;

@@ -1,7 +1,7 @@
 -- The digits of the number are put into the area where there is room for them all.
 -- The loop keeps: the last digits stand in the area from place at + i on, and `rest` has the first i.
-use Rattle.std.proofs.Common.{refl, arith, length-set}
-use Rattle.numbers.proofs.NumberLoops.{Put, putting-none, putting-next, put-none, put_all}
+use Rattle.std.proofs.Common.{arith, length-set}
+use Rattle.numbers.proofs.NumberLoops.{Put, putting-next, put-none, put_all}
 use Rattle.numbers.proofs.write_number.Goals.{Joined-then-area-at, then-area-at-via-then-area-at, then-area-at-via-else-area-at+then-area-at-2}
 use Rattle.numbers.proofs.write_number.Goals as goal
 
@@ -19,11 +19,6 @@ returns-then-area-at-clause-next c = (no-room (goal.at.returns-then-area-at-clau
 
 pub returns-then-area-at-clause-words : goal.returns-then-area-at-clause-words
 returns-then-area-at-clause-words c = (no-room (goal.at.returns-then-area-at-clause-words c).Joined-then-area-at).1
-
-pub loop-i-init : goal.loop-i-init
-loop-i-init c =
-    let z = c.args in
-    (refl, putting-none z.x c.decimal_length-k.result z.at z.area.now)
 
 pub loop-i-preserved : goal.loop-i-preserved
 loop-i-preserved c =
