@@ -18,11 +18,11 @@ use Rattle.graphs.proofs.Sound.{head0, Linked, Sound, chain-of, edges_left, left
 use Rattle.graphs.proofs.Queues.{Waiting, Scanning, queue-begin, queue-scan, queue-end}
 use Rattle.images.specs.Checking.{image}
 use Rattle.breadth_folded.specs.declared.Scanned.{Scanned}
-use Rattle.walks.specs.Promises.{walk_number, BreadthPromise}
-use Rattle.walks.specs.Writing.{no_events, total, Held}
+use Rattle.walks.specs.Promises.{walk_number}
+use Rattle.walks.specs.Writing.{total, Held}
 use Rattle.breadth_folded.specs.Threads.{last_of, last_node, last_from, threaded, rear, Ends, FoldedAt, SomeFoldedAt, FoldedScanned, Scans, CanSearch, Ended}
-use Rattle.walks.proofs.Begins.{begins, refused-promised, taken-promised}
-use Rattle.walks.proofs.Writing.{Emits, Puts, Starts, held-total, held-lengths}
+use Rattle.walks.proofs.Begins.{begins}
+use Rattle.walks.proofs.Writing.{Emits, Puts, Starts, held-total}
 use Rattle.walks.proofs.Reading.{target}
 use Rattle.walks.proofs.Scans.{first-waits, first-held, waiting-queued, scanning-queued, waiting-room, InScan, scan-few, scan-kept, scan-same, over-held, over-total, leads-vertex, crossed-total, edge-pass, edge-queue, edge-join, edge-total}
 
@@ -58,9 +58,6 @@ module _ {n m x : ℕ} {after : List ℕ} (E : Ends n m x after) where
   -- What the code finds is the end of the list.
   ends_last : last_from m after x ≡ last_of x E.list
   ends_last = ap (last_of x) ends-chain
-
-  pub ends-first : (0 < x) × ((x ≤ 1000) × (x ≤ length after))
-  ends-first = (E.vertex.0, (omega (arith, E.vertex.1, E.few_vertices), omega (arith, E.vertex.1, E.long)))
 
   pub follow-start : Following n m after (last_from m after x) x (get_or after (x - 1) 0)
   follow-start = record { rest = E.list; ends = sym ends_last; links = E.linked.1; next = sym (read_at after x) ∙ E.linked.0; edges = E.edges; short = E.short }
@@ -485,9 +482,6 @@ module _ {g : Image} {before : List ℕ} {start : ℕ} {marks₀ events₀ : Lis
   first-queued : Labels g.n (start ∷ [])
   first-queued = waiting-queued (first-waits g C.sound before start C.start_vertex C.listed)
 
-  pub search-few : (g.n ≤ 1000) × (g.m ≤ 4000)
-  search-few = (C.sound.few_vertices, C.sound.few_edges)
-
   pub search-ends : Ends g.n g.m start g.after
   search-ends = rear-ends C.sound start [] first-queued start refl
 
@@ -507,11 +501,6 @@ module _ {g : Image} {before : List ℕ} {start : ℕ} {marks₀ events₀ : Lis
   }
 
   module _ {after marks events t : List ℕ} {f v : ℕ} (Z : Searching g before start marks₀ events₀ after marks events t f v) where
-
-    -- The areas keep their lengths.
-    search-lengths : (length after ≡ length g.after) × ((length marks ≡ length marks₀) × (length events ≡ length events₀))
-    search-lengths = (ap length Z.links ∙ threaded-length C.sound Z.w, held-lengths Z.held C.roomy (waiting-room Z.waiting (graph-closed g C.sound)))
-
     -- One waits.
     search-next : (v ≡ 0 → ⊥) → FoldedAt g before start v f marks₀ events₀ after marks events t
     search-next ne = go Z.w Z.waiting Z.links Z.first Z.last

@@ -127,6 +127,7 @@ pub fn bfs_folded(
         marks.old events.old (walked_of result) marks.new events.new }
     ensures after { after.new ≡ after.old }
 {
-    check_walk(&Image { n, m, after, tail }, before, start, marks, events, true)?;
+    let g = Image { n, m, after, tail };
+    check_walk(&g, before, start, marks, events, true)?;
     Ok(search(n, m, after, tail, before, start, marks, events))
 }
