@@ -18,12 +18,11 @@ use Rattle.graphs.proofs.Sound.{head0, Linked, Sound, chain-of, edges_left, left
 use Rattle.graphs.proofs.Queues.{Waiting, Scanning, queue-begin, queue-scan, queue-end}
 use Rattle.images.specs.Checking.{image}
 use Rattle.breadth_folded.specs.declared.Scanned.{Scanned}
-use Rattle.walks.specs.declared.write.Walked.{Walked}
-use Rattle.walks.specs.Promises.{walk_number, BreadthPromise}
-use Rattle.walks.specs.Writing.{no_events, total, Held}
+use Rattle.walks.specs.Promises.{walk_number}
+use Rattle.walks.specs.Writing.{total, Held}
 use Rattle.breadth_folded.specs.Threads.{last_of, last_node, last_from, threaded, rear, Ends, FoldedAt, SomeFoldedAt, FoldedScanned, Scans, CanSearch, Ended}
-use Rattle.walks.proofs.Begins.{begins, refused-promised, taken-promised}
-use Rattle.walks.proofs.Writing.{Emits, Puts, Starts, held-total, held-lengths}
+use Rattle.walks.proofs.Begins.{begins}
+use Rattle.walks.proofs.Writing.{Emits, Puts, Starts, held-total}
 use Rattle.walks.proofs.Reading.{target}
 use Rattle.walks.proofs.Scans.{first-waits, first-held, waiting-queued, scanning-queued, waiting-room, InScan, scan-few, scan-kept, scan-same, over-held, over-total, leads-vertex, crossed-total, edge-pass, edge-queue, edge-join, edge-total}
 
@@ -59,9 +58,6 @@ module _ {n m x : ℕ} {after : List ℕ} (E : Ends n m x after) where
   -- What the code finds is the end of the list.
   ends_last : last_from m after x ≡ last_of x E.list
   ends_last = ap (last_of x) ends-chain
-
-  pub ends-first : (0 < x) × ((x ≤ 1000) × (x ≤ length after))
-  ends-first = (E.vertex.0, (omega (arith, E.vertex.1, E.few_vertices), omega (arith, E.vertex.1, E.long)))
 
   pub follow-start : Following n m after (last_from m after x) x (get_or after (x - 1) 0)
   follow-start = record { rest = E.list; ends = sym ends_last; links = E.linked.1; next = sym (read_at after x) ∙ E.linked.0; edges = E.edges; short = E.short }
@@ -452,26 +448,18 @@ module _ {g : Image} {before : List ℕ} {start v f : ℕ} {marks₀ events₀ a
 
 -- ---- whatever the areas were as lent
 -- What the loop of a scan keeps: a is the word of e, and v is being scanned.
-abbrev pub ScanKept : (n m v f : ℕ) (after₁ tail marks₁ events₁ t₁ after marks events t : List ℕ) (last e a : ℕ) → Type 0
-ScanKept n m v f after₁ tail marks₁ events₁ t₁ after marks events t last e a =
-    (a ≡ get_or after (e - 1) 0)
-    × ((before : List ℕ) (start : ℕ) (after₀ marks₀ events₀ : List ℕ) → FoldedAt (image n m after₀ tail) before start v f marks₀ events₀ after₁ marks₁ events₁ t₁
-    → Passing (image n m after₀ tail) before start v marks₀ events₀ t₁ after marks events t last e)
+pub record ScanKept (n m v f : ℕ) (after₁ tail marks₁ events₁ t₁ after marks events t : List ℕ) (last e a : ℕ) : Type 0 where
+  pub word : a ≡ get_or after (e - 1) 0
+  pub within : {before : List ℕ} {start : ℕ} {after₀ marks₀ events₀ : List ℕ} → FoldedAt (image n m after₀ tail) before start v f marks₀ events₀ after₁ marks₁ events₁ t₁
+      → Passing (image n m after₀ tail) before start v marks₀ events₀ t₁ after marks events t last e
 
 module _ {n m v f : ℕ} {after₁ tail marks₁ events₁ t₁ after marks events t : List ℕ} {last e a : ℕ}
     (K : SomeFoldedAt n m v f after₁ tail marks₁ events₁ t₁) (I : ScanKept n m v f after₁ tail marks₁ events₁ t₁ after marks events t last e a) where
   pub some-passing : Passing (image n m K.after₀ tail) K.before K.start v K.marks₀ K.events₀ t₁ after marks events t last e
-  some-passing = I.1 K.before K.start K.after₀ K.marks₀ K.events₀ K.is
+  some-passing = I.within K.is
 
   pub some-ahead : n < a → Ahead (image n m K.after₀ tail) after marks last a (get_or tail (a - n - 1) 0)
-  some-ahead h = scan-ahead K.is some-passing I.0 h
-
-  -- The areas are as long as they were.
-  pub some-lengths : (length after ≡ length after₁) × ((length marks ≡ length marks₁) × (length events ≡ length events₁))
-  some-lengths =
-      let k = passing-lengths K.is some-passing in
-      let l = passing-lengths K.is (scan-start K.is) in
-      (k.0 ∙ sym l.0, (k.1.0 ∙ sym l.1.0, k.1.1 ∙ sym l.1.1))
+  some-ahead h = scan-ahead K.is some-passing I.word h
 
 -- ---- from scan to scan
 -- The vertices w wait: v the first of them, 0 where there is none, and f the last node of the last.
@@ -494,45 +482,25 @@ module _ {g : Image} {before : List ℕ} {start : ℕ} {marks₀ events₀ : Lis
   first-queued : Labels g.n (start ∷ [])
   first-queued = waiting-queued (first-waits g C.sound before start C.start_vertex C.listed)
 
-  pub search-few : (g.n ≤ 1000) × (g.m ≤ 4000)
-  search-few = (C.sound.few_vertices, C.sound.few_edges)
-
   pub search-ends : Ends g.n g.m start g.after
   search-ends = rear-ends C.sound start [] first-queued start refl
 
-  search-first : {marks events t : List ℕ} {f : ℕ}
+  -- The start waits.
+  pub search-start : {marks events t : List ℕ} {f : ℕ}
       → Starts (g.n + g.m) before start marks₀ events₀ marks events t
       → f ≡ last_from g.m g.after start
-      → FoldedAt g before start start f marks₀ events₀ g.after marks events t
-  search-first w l = record {
-    sound = C.sound;
-    start_vertex = C.start_vertex;
-    roomy = C.roomy;
+      → Searching g before start marks₀ events₀ g.after marks events t f start
+  search-start w l = record {
     h = [] ▸ event label 0 start;
-    q = [];
+    w = start ∷ [];
     waiting = first-waits g C.sound before start C.start_vertex C.listed;
     held = first-held g C.sound before start C.start_vertex C.listed C.roomy w;
     links = refl;
-    last = l ∙ rear-last C.sound start [] first-queued start refl;
-  }
-
-module _ {g : Image} {before : List ℕ} {start v₁ f₁ : ℕ} {marks₀ events₀ after₁ marks₁ events₁ t₁ : List ℕ} (F : FoldedAt g before start v₁ f₁ marks₀ events₀ after₁ marks₁ events₁ t₁) where
-  pub search-start : Searching g before start marks₀ events₀ after₁ marks₁ events₁ t₁ f₁ v₁
-  search-start = record {
-    h = F.h;
-    w = v₁ ∷ F.q;
-    waiting = F.waiting;
-    held = F.held;
-    links = F.links;
     first = refl;
-    last = λ y q e. F.last ∙ (let a : v₁ ≡ y = cc in let b : F.q ≡ q = cc in λ i. last_node g (rear (a i) (b i)));
+    last = λ y q e. l ∙ rear-last C.sound start [] first-queued start refl ∙ (let a : start ≡ y = cc in let b : [] ≡ q = cc in λ i. last_node g (rear (a i) (b i)));
   }
 
   module _ {after marks events t : List ℕ} {f v : ℕ} (Z : Searching g before start marks₀ events₀ after marks events t f v) where
-    -- The areas keep their lengths.
-    search-lengths : (length after ≡ length g.after) × ((length marks ≡ length marks₀) × (length events ≡ length events₀))
-    search-lengths = (ap length Z.links ∙ threaded-length F.sound Z.w, held-lengths Z.held F.roomy (waiting-room Z.waiting (graph-closed g F.sound)))
-
     -- One waits.
     search-next : (v ≡ 0 → ⊥) → FoldedAt g before start v f marks₀ events₀ after marks events t
     search-next ne = go Z.w Z.waiting Z.links Z.first Z.last
@@ -540,9 +508,9 @@ module _ {g : Image} {before : List ℕ} {start v₁ f₁ : ℕ} {marks₀ event
         go : (w : List ℕ) → Waiting (graph_of g) before start Z.h w → after ≡ threaded g w → v ≡ head0 w → ((y : ℕ) (q : List ℕ) → w ≡ y ∷ q → f ≡ last_node g (rear y q)) → FoldedAt g before start v f marks₀ events₀ after marks events t
         go [] W l e k = absurd (ne e)
         go (y ∷ q) W l e k = record {
-          sound = F.sound;
-          start_vertex = F.start_vertex;
-          roomy = F.roomy;
+          sound = C.sound;
+          start_vertex = C.start_vertex;
+          roomy = C.roomy;
           h = Z.h;
           q = q;
           waiting = subst (λ (x : ℕ). Waiting (graph_of g) before start Z.h (x ∷ q)) (sym e) W;
@@ -551,8 +519,11 @@ module _ {g : Image} {before : List ℕ} {start v₁ f₁ : ℕ} {marks₀ event
           last = k y q refl ∙ ap (λ (x : ℕ). last_node g (rear x q)) (sym e);
         }
 
+    pub some_next : (v ≡ 0 → ⊥) → SomeFoldedAt g.n g.m v f after g.tail marks events t
+    some_next ne = record { before = before; start = start; after₀ = g.after; marks₀ = marks₀; events₀ = events₀; is = search-next ne }
+
     -- None waits.
-    search-end : v ≡ 0 → Ended g before start marks₀ events₀ after marks events t
+    pub search-end : v ≡ 0 → Ended g before start marks₀ events₀ after marks events t
     search-end e = go Z.w Z.waiting Z.links Z.first
       where
         go : (w : List ℕ) → Waiting (graph_of g) before start Z.h w → after ≡ threaded g w → v ≡ head0 w → Ended g before start marks₀ events₀ after marks events t
@@ -560,86 +531,38 @@ module _ {g : Image} {before : List ℕ} {start v₁ f₁ : ℕ} {marks₀ event
         go (y ∷ q) W l k = absurd (let z : v ≡ y = k in let p = (waiting-queued W).all y (here refl) in omega arith)
 
     -- The first was scanned: the word of its last node, which leads on to the next, is cleared.
-    module _ {after' marks' events' : List ℕ} {s : Scanned} (D : FoldedScanned g before start v marks₀ events₀ after' marks' events' t s) where
-      search-leading : Leading g after' s.e
+    module _ (ne : v ≡ 0 → ⊥) {after' marks' events' : List ℕ} {s : Scanned} (P : Scans g.n g.m v f g.tail after marks events t after' marks' events' s) where
+      D : FoldedScanned g before start v marks₀ events₀ after' marks' events' t s
+      D = P before start g.after marks₀ events₀ (search-next ne)
+
+      pub search-leading : Leading g after' s.e
       search-leading =
-          let k = last-node F.sound v (D.queued.all v (here refl)) in
-          let l : length after' ≡ length g.after = ap length D.links ∙ threaded-length F.sound (v ∷ D.q) in
+          let k = last-node C.sound v (D.queued.all v (here refl)) in
+          let l : length after' ≡ length g.after = ap length D.links ∙ threaded-length C.sound (v ∷ D.q) in
           let e : s.e ≡ last_node g v = D.end in
           record {
             low = omega (arith, k.0);
-            high = omega (arith, k.1, F.sound.long_after);
-            small = omega (arith, k.1, F.sound.few_vertices, F.sound.few_edges);
+            high = omega (arith, k.1, C.sound.long_after);
+            small = omega (arith, k.1, C.sound.few_vertices, C.sound.few_edges);
           }
 
-      search-less : 10000 - total s.tally < 10000 - total t
-      search-less = omega (arith, D.more, held-total D.held, waiting-room D.waiting (graph-closed g F.sound), F.roomy.few)
+      pub search-less : 10000 - total s.tally < 10000 - total t
+      search-less = omega (arith, D.more, held-total D.held, waiting-room D.waiting (graph-closed g C.sound), C.roomy.few)
 
-      search-more : Searching g before start marks₀ events₀ (set after' (s.e - 1) 0) marks' events' s.tally s.f s.next
+      pub search-more : Searching g before start marks₀ events₀ (set after' (s.e - 1) 0) marks' events' s.tally s.f s.next
       search-more = record {
         h = D.h;
         w = D.q;
         waiting = D.waiting;
         held = D.held;
-        links = store_word after' s.e 0 ∙ (λ i. put 0 (D.links i) (D.end i) 0) ∙ threaded-leave F.sound v D.q D.queued;
+        links = store_word after' s.e 0 ∙ (λ i. put 0 (D.links i) (D.end i) 0) ∙ threaded-leave C.sound v D.q D.queued;
         first = D.next;
         last = λ y q e. D.last ∙ ap (λ (l : List ℕ). last_node g (rear v l)) e;
       }
 
--- ---- whatever the areas were as lent, from scan to scan
--- What the loop of the search keeps, once the start waits.
-abbrev pub SearchKept : (n m : ℕ) (after₁ tail marks₁ events₁ t₁ : List ℕ) (f₁ v₁ : ℕ) (after marks events t : List ℕ) (f v : ℕ) → Type 0
-SearchKept n m after₁ tail marks₁ events₁ t₁ f₁ v₁ after marks events t f v =
-    (before : List ℕ) (start : ℕ) (marks₀ events₀ : List ℕ) → FoldedAt (image n m after₁ tail) before start v₁ f₁ marks₀ events₀ after₁ marks₁ events₁ t₁
-    → Searching (image n m after₁ tail) before start marks₀ events₀ after marks events t f v
-
-module _ {n m : ℕ} {before : List ℕ} {start : ℕ} {after₁ tail marks₀ events₀ marks₁ events₁ t₁ : List ℕ} {f₁ : ℕ} (C : CanSearch (image n m after₁ tail) before start marks₀ events₀)
-    (starts : Starts (n + m) before start marks₀ events₀ marks₁ events₁ t₁) (l : f₁ ≡ last_from m after₁ start)
-    {after marks events t : List ℕ} {f v : ℕ} (I : SearchKept n m after₁ tail marks₁ events₁ t₁ f₁ start after marks events t f v) where
-  begun : FoldedAt (image n m after₁ tail) before start start f₁ marks₀ events₀ after₁ marks₁ events₁ t₁
-  begun = search-first C starts l
-
-  searching : Searching (image n m after₁ tail) before start marks₀ events₀ after marks events t f v
-  searching = I before start marks₀ events₀ begun
-
-  pub some_next : (v ≡ 0 → ⊥) → SomeFoldedAt n m v f after tail marks events t
-  some_next ne = record { before = before; start = start; after₀ = after₁; marks₀ = marks₀; events₀ = events₀; is = search-next begun searching ne }
-
-  -- The areas are as long as they were.
-  pub same-lengths : (length after ≡ length after₁) × ((length marks ≡ length marks₀) × (length events ≡ length events₀))
-  same-lengths = search-lengths begun searching
-
-  pub ended : v ≡ 0 → Ended (image n m after₁ tail) before start marks₀ events₀ after marks events t
-  ended = search-end begun searching
-
-  module _ (ne : v ≡ 0 → ⊥) {after' marks' events' : List ℕ} {s : Scanned} (P : Scans n m v f tail after marks events t after' marks' events' s) where
-    over : FoldedScanned (image n m after₁ tail) before start v marks₀ events₀ after' marks' events' t s
-    over = P before start after₁ marks₀ events₀ (search-next begun searching ne)
-
-    pub some-leading : Leading (image n m after₁ tail) after' s.e
-    some-leading = search-leading begun searching over
-
-    pub some-less : 10000 - total s.tally < 10000 - total t
-    some-less = search-less begun searching over
-
--- One scan more.
-pub search-again : {n m : ℕ} {after₁ tail marks₁ events₁ t₁ : List ℕ} {f₁ v₁ : ℕ} {after marks events t : List ℕ} {f v : ℕ}
-    → SearchKept n m after₁ tail marks₁ events₁ t₁ f₁ v₁ after marks events t f v
-    → (v ≡ 0 → ⊥)
-    → {after' marks' events' : List ℕ} {s : Scanned} → Scans n m v f tail after marks events t after' marks' events' s
-    → SearchKept n m after₁ tail marks₁ events₁ t₁ f₁ v₁ (set after' (s.e - 1) 0) marks' events' s.tally s.f s.next
-search-again {after₁ = after₁} I ne P before start marks₀ events₀ F = let Z = I before start marks₀ events₀ F in search-more F Z (P before start after₁ marks₀ events₀ (search-next F Z ne))
-
 -- ---- the whole walk
-module _ (g : Image) (before : List ℕ) (start : ℕ) (marks events : List ℕ) {k : ℕ} (is : k ≡ walk_number g before start marks events []) where
-  -- It is refused.
-  pub walk_refused : {r : Walked} → (r.number ≡ k) × (r.tally ≡ no_events) → k ≢ 0 → BreadthPromise g before start [] marks events r marks events × (g.after ≡ g.after)
-  walk_refused f ne = (refused-promised is ne f, refl)
-
-  -- It is taken.
-  pub walk_can : k ≡ 0 → CanSearch g before start marks events
-  walk_can e = let B = begins g before start marks events [] (sym is ∙ e) in record { sound = B.sound; start_vertex = B.start_vertex; listed = B.listed; roomy = B.breadth-room }
-
-  pub walk_taken : {t after' marks' events' : List ℕ} → k ≡ 0 → Ended g before start marks events after' marks' events' t
-      → BreadthPromise g before start [] marks events (record { number = 0; tally = t }) marks' events' × (after' ≡ g.after)
-  walk_taken e E = (taken-promised (sym is ∙ e) refl E.held, E.links)
+-- It is taken, and can begin.
+pub can_begin : (g : Image) (before : List ℕ) (start : ℕ) (marks events : List ℕ) → 0 ≡ walk_number g before start marks events [] → CanSearch g before start marks events
+can_begin g before start marks events taken =
+    let B = begins g before start marks events [] (sym taken) in
+    record { sound = B.sound; start_vertex = B.start_vertex; listed = B.listed; roomy = B.breadth-room }

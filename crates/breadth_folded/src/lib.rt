@@ -7,24 +7,23 @@
 
 ghost use Rattle.std.specs.Prelude.{◌≡◌, []};
 ghost use Rattle.images.specs.Checking.{image};
-ghost use Rattle.walks.specs.Promises.{BreadthPromise};
+ghost use Rattle.walks.specs.Promises.{walked_of, BreadthPromise};
 ghost use Rattle.breadth_folded.specs.Threads.{Ends, last_from, SomeFoldedAt, Scans, CanSearch, Ended};
 
-use images::{Edge, Vertex};
-use walks::{Walked, begin, emit, label, refused, walk_number};
+use images::{Edge, Image, Vertex};
+use refusals::Refusal;
+use walks::{Kind, begin, check_walk, emit, label};
 
 // The last node of the list of x: its last edge, or x itself.
-fn last_node(n: u16, m: u16, x: u16, after: &[u16]) -> u16
-    requires { Ends n m x after.now }
-    ensures { result ≡ last_from m after.now x }
+fn last_node(g: &Image, x: u16) -> u16
+    requires { Ends g.now.n g.now.m x g.now.after.now }
+    ensures { result ≡ last_from g.now.m g.now.after.now x }
 {
     let mut f = x;
-    let i = x as usize - 1;
-    let mut a = after[i];
+    let mut a = g.after[f as usize - 1];
     while a != 0 {
         f = a;
-        let j = f as usize - 1;
-        a = after[j];
+        a = g.after[f as usize - 1];
     }
     f
 }
@@ -43,10 +42,10 @@ pub(crate) struct Scanned {
 fn scan_vertex(
     n: u16,
     m: u16,
-    v: Vertex,
-    f: u16,
     after: &mut [u16],
     tail: &[u16],
+    v: Vertex,
+    f: u16,
     marks: &mut [u16],
     events: &mut [u16],
     tally: [u32; 7],
@@ -58,31 +57,29 @@ fn scan_vertex(
     let mut t = tally;
     let mut last = f;
     let mut e = v.0;
-    let i = e as usize - 1;
-    let mut a = after[i];
+    let mut a = after[e as usize - 1];
     while n < a {
         e = a;
-        let b = emit(events, 7, Edge(e), v, t);
-        t = b;
-        let j = e as usize - n as usize - 1;
-        let x = tail[j];
+        // Named first: the check does not cover a call whose result goes straight into this array.
+        let crossed = emit(events, Kind::Traverse as u16, Edge(e), v, t);
+        t = crossed;
+        let x = tail[e as usize - n as usize - 1];
         let l = x as usize - 1;
         if marks[l] == 0 {
-            let c = label(marks, events, Vertex(x), t);
-            t = c;
+            let joined = label(marks, events, Vertex(x), t);
+            t = joined;
             let k = last as usize - 1;
             after[k] = x;
-            last = last_node(n, m, x, after);
+            last = last_node(&Image { n, m, after, tail }, x);
         }
-        let k = e as usize - 1;
-        a = after[k];
+        a = after[e as usize - 1];
     }
-    let s = emit(events, 6, Edge(0), v, t);
+    let all = emit(events, Kind::Scan as u16, Edge(0), v, t);
     Scanned {
-        e: e,
+        e,
         f: last,
         next: a,
-        tally: s,
+        tally: all,
     }
 }
 
@@ -90,10 +87,10 @@ fn scan_vertex(
 fn search(
     n: u16,
     m: u16,
-    start: Vertex,
     after: &mut [u16],
     tail: &[u16],
     before: &[u16],
+    start: Vertex,
     marks: &mut [u16],
     events: &mut [u16],
 ) -> [u32; 7]
@@ -103,15 +100,13 @@ fn search(
 {
     let mut tally = begin(marks, events, n as usize + m as usize, before, start);
     let mut v = start.0;
-    let mut f = last_node(n, m, v, after);
+    let mut f = last_node(&Image { n, m, after, tail }, v);
     while v != 0 {
-        let s = scan_vertex(n, m, Vertex(v), f, after, tail, marks, events, tally);
-        let t = s.tally;
-        tally = t;
+        let s = scan_vertex(n, m, after, tail, Vertex(v), f, marks, events, tally);
+        tally = s.tally;
         f = s.f;
-        let i = s.e as usize - 1;
         v = s.next;
-        after[i] = 0;
+        after[s.e as usize - 1] = 0;
     }
     tally
 }
@@ -121,24 +116,18 @@ fn search(
 pub fn bfs_folded(
     n: u16,
     m: u16,
-    start: Vertex,
     after: &mut [u16],
     tail: &[u16],
     before: &[u16],
+    start: Vertex,
     marks: &mut [u16],
     events: &mut [u16],
-) -> Walked
+) -> Result<[u32; 7], Refusal>
     ensures walk { BreadthPromise (image n m after.old tail.now) before.now start.0 []
-        marks.old events.old result marks.new events.new }
+        marks.old events.old (walked_of result) marks.new events.new }
     ensures after { after.new ≡ after.old }
 {
-    let k = walk_number(n, m, start, after, tail, before, marks, events, true);
-    if k != 0 {
-        return refused(k);
-    }
-    let tally = search(n, m, start, after, tail, before, marks, events);
-    Walked {
-        number: 0,
-        tally: tally,
-    }
+    let g = Image { n, m, after, tail };
+    check_walk(&g, before, start, marks, events, true)?;
+    Ok(search(n, m, after, tail, before, start, marks, events))
 }

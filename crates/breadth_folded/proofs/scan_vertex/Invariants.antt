@@ -1,4 +1,4 @@
-use Prim.Native.Nat.{◌-◌}
+use Rattle.std.proofs.Common.{◌-◌}
 use Rattle.walks.specs.Writing.{total}
 use Rattle.breadth_folded.proofs.Threads.{ScanKept}
 use Rattle.breadth_folded.proofs.scan_vertex.Given as goal
