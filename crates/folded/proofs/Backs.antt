@@ -3,14 +3,17 @@
 use mathlib.Core.Path.{◌≡◌, refl, sym, ap, ◌∙◌}
 use mathlib.Core.Logic.{◌≢◌}
 use mathlib.Core.Bool.{Bool, true, false, cond, ◌&&◌}
-use mathlib.Core.List.{List, [], ◌∷◌}
+use mathlib.Core.List.{List, [], ◌∷◌, ◌++◌}
 use Prim.Native.Nat.{ℕ, suc, ◌+◌, ◌-◌, ◌*◌, ◌≤◌, ◌<◌}
 use native.Mathlib.Omega.{arith}
 use lib.Dec.{eqb}
-use lib.ListN.{length, get_or, set}
+use Rattle.std.specs.Prelude.{Option, Some, None}
+use Rattle.std.proofs.lemmas.Option.{none-some, cond_some}
+use lib.ListN.{length, get_or, set, take, drop, take-append-drop}
+use Rattle.std.proofs.lemmas.List.{length-take, get_or-take}
 use borrow.Author.Tests.{eq-eqb, ne_eqb, le-leb, lt-leb}
-use Rattle.lists.specs.Words.{at, put, pasted}
-use Rattle.lists.proofs.Words.{read_past, pasted-none, at_other, read_at, length-filled, filled_next, filled-ahead}
+use Rattle.lists.specs.Words.{at, put, pasted, filled}
+use Rattle.lists.proofs.Words.{read_past, pasted-none, at_other, read_at, filled_next, filled-ahead, filled-same, filled-behind, take-filled}
 use Rattle.lists.proofs.Tests.{and-true, both}
 use Rattle.graphs.specs.Nodes.{is_edge, is_link, is_node}
 use Rattle.graphs.specs.Results.{rest_mark, marks_rest}
@@ -20,14 +23,10 @@ use Rattle.folded.specs.Steps.{Attempt, out, made, trying, upward_in}
 use Rattle.folded.proofs.Stores.{store-past, unfit-left, fit-made}
 
 -- ---- marks
--- At the end of a roll-back: the first i of n marks are done.
-pub record Resting (n i : ℕ) (marks left : List ℕ) : Type 0 where
+-- At the end of a roll-back: the first i marks are done.
+pub record Resting (i : ℕ) (marks left : List ℕ) : Type 0 where
   pub so_far : left ≡ marks_rest i marks
-  pub within : i ≤ n
-  pub long : n ≤ length marks
-
-pub rest-length : {n i : ℕ} {marks left : List ℕ} → Resting n i marks left → length left ≡ length marks
-rest-length {n} {i} {marks} R = ap length R.so_far ∙ length-filled (λ x. rest_mark (at 0 marks x)) i marks (omega (arith, R.within, R.long))
+  pub within : i ≤ length marks
 
 rest-next : (marks : List ℕ) (i : ℕ) → i < length marks → set (marks_rest i marks) i (rest_mark (get_or (marks_rest i marks) i 0)) ≡ marks_rest (i + 1) marks
 rest-next marks i h =
@@ -37,15 +36,27 @@ rest-next marks i h =
     let word : get_or (marks_rest i marks) i 0 ≡ at 0 marks (suc i) = filled-ahead f i marks h ∙ sym (read_at marks (suc i) ∙ ap (λ (j : ℕ). get_or marks j 0) s) in
     ap (λ (x : ℕ). set (marks_rest i marks) i (rest_mark x)) word ∙ filled_next f i marks h ∙ ap (λ (k : ℕ). marks_rest k marks) n
 
-pub rest_more : {n i : ℕ} {marks left : List ℕ} → Resting n i marks left → i < n → {mark : ℕ} → mark ≡ rest_mark (get_or left i 0) → Resting n (i + 1) marks (set left i mark)
-rest_more {n} {i} {marks} {left} R h e = record {
-  so_far = ap (set left i) e ∙ ap (λ (l : List ℕ). set l i (rest_mark (get_or l i 0))) R.so_far ∙ rest-next marks i (omega (arith, R.long));
+pub rest_more : {i : ℕ} {marks left : List ℕ} → Resting i marks left → i < length marks → {mark : ℕ} → mark ≡ rest_mark (get_or left i 0) → Resting (i + 1) marks (set left i mark)
+rest_more {i} {marks} {left} R h e = record {
+  so_far = ap (set left i) e ∙ ap (λ (l : List ℕ). set l i (rest_mark (get_or l i 0))) R.so_far ∙ rest-next marks i h;
   within = omega arith;
-  long = R.long;
 }
 
-pub rest_all : {n i : ℕ} {marks left : List ℕ} → Resting n i marks left → n ≤ i → left ≡ marks_rest n marks
-rest_all {n} {i} {marks} R h = let e : i ≡ n = omega (arith, R.within) in R.so_far ∙ ap (λ (k : ℕ). marks_rest k marks) e
+-- The first n marks done by themselves, with the others behind them.
+rest-behind : (marks : List ℕ) (n : ℕ) → marks_rest n (take n marks) ++ drop n marks ≡ marks_rest n marks
+rest-behind marks n =
+    let f : ℕ → ℕ = λ x. rest_mark (at 0 marks x) in
+    let z : n + 0 ≡ n = omega arith in
+    ap (λ (l : List ℕ). l ++ drop n marks)
+    (filled-same (λ x. rest_mark (at 0 (take n marks) x)) f n (take n marks) (λ x p q. ap rest_mark (read_at (take n marks) x ∙ get_or-take n marks (x - 1) 0 (omega arith) ∙ sym (read_at marks x)))
+    ∙ ap (λ (j : ℕ). filled f n (take j marks)) (sym z) ∙ sym (take-filled f n 0 marks) ∙ ap (λ (j : ℕ). take j (filled f n marks)) z)
+    ∙ (λ i. take n (filled f n marks) ++ sym (filled-behind f n marks) i)
+    ∙ take-append-drop n (filled f n marks)
+
+pub rest_all : (n : ℕ) (marks : List ℕ) {i : ℕ} {left : List ℕ} → Resting i (take n marks) left → n ≤ length marks → length (take n marks) ≤ i → left ++ drop n marks ≡ marks_rest n marks
+rest_all n marks {i} R h q =
+    let e : i ≡ n = omega (arith, R.within, length-take n marks) in
+    ap (λ (l : List ℕ). l ++ drop n marks) (R.so_far ∙ ap (λ (k : ℕ). marks_rest k (take n marks)) e) ∙ rest-behind marks n
 
 -- ---- tests
 fails-first : {a : Bool} (b : Bool) → a ≡ false → (a && b) ≡ false
@@ -65,18 +76,22 @@ fails-third false b c e = refl
 abbrev leads_up : Config → ℕ → Bool
 leads_up w r = is_edge w.n w.m r && is_node w.n w.m (target w r)
 
+-- r where it is, and else none.
+abbrev edge_if : Bool → ℕ → Option ℕ
+edge_if b r = cond b (Some r) None
+
 -- a(f) by the tests, as the code makes them.
 module _ (w : Config) {r : ℕ} (e : r ≡ upward w) where
-  by-test : {b : Bool} → leads_up w r ≡ b → cond b r 0 ≡ upward_in w
-  by-test h = ap (λ (b : Bool). cond b r 0) (sym h) ∙ ap (λ (x : ℕ). cond (leads_up w x) x 0) e
+  by-test : {b : Bool} → leads_up w r ≡ b → edge_if b r ≡ upward_in w
+  by-test h = ap (λ (b : Bool). edge_if b r) (sym h) ∙ ap (λ (x : ℕ). edge_if (leads_up w x) x) e
 
-  pub no_edge : is_edge w.n w.m r ≡ false → 0 ≡ upward_in w
+  pub no_edge : is_edge w.n w.m r ≡ false → None ≡ upward_in w
   no_edge h = by-test (fails-first (is_node w.n w.m (target w r)) h)
 
-  pub no-trailer : w.n + w.m < get_or w.tail (r - w.n - 1) 0 → 0 ≡ upward_in w
+  pub no-trailer : w.n + w.m < get_or w.tail (r - w.n - 1) 0 → None ≡ upward_in w
   no-trailer h = by-test (fails-second (is_edge w.n w.m r) (ap (is_node w.n w.m) (read_past w.n w.tail r) ∙ lt-leb (get_or w.tail (r - w.n - 1) 0) (w.n + w.m) h))
 
-  pub edge-upward : is_edge w.n w.m r ≡ true → get_or w.tail (r - w.n - 1) 0 ≤ w.n + w.m → r ≡ upward_in w
+  pub edge-upward : is_edge w.n w.m r ≡ true → get_or w.tail (r - w.n - 1) 0 ≤ w.n + w.m → Some r ≡ upward_in w
   edge-upward h q = by-test (and-true h (ap (is_node w.n w.m) (read_past w.n w.tail r) ∙ le-leb (get_or w.tail (r - w.n - 1) 0) (w.n + w.m) q))
 
 -- r is a(f), an edge, and its tail word can be a trailer.
@@ -87,27 +102,21 @@ pub record Upward (w : Config) (r : ℕ) : Type 0 where
   pub edge : is_edge w.n w.m (upward w) ≡ true
   pub trailer : is_node w.n w.m (target w (upward w)) ≡ true
 
--- It is, unless what is read is 0; and then the tests fail.
-module _ (w : Config) {r : ℕ} (e : r ≡ upward_in w) where
-  leads : r ≡ upward w → leads_up w (upward w) ≡ true → Upward w r
-  leads q t =
+-- It is, where one is read; and where none is, the tests fail.
+module _ (w : Config) where
+  pub upward-is : {r : ℕ} → Some r ≡ upward_in w → Upward w r
+  upward-is {r} e =
+      let (t, q) = cond_some (leads_up w (upward w)) (upward w) r (sym e) in
       let z = both (is_edge w.n w.m (upward w)) (is_node w.n w.m (target w (upward w))) t in
       let x = edge-is w.n w.m (upward w) z.0 in
-      record { read = q; low = omega (arith, x.0); high = omega (arith, x.1); edge = z.0; trailer = z.1 }
+      record { read = sym q; low = omega (arith, x.0); high = omega (arith, x.1); edge = z.0; trailer = z.1 }
 
-  pub upward-is : r ≢ 0 → Upward w r
-  upward-is ne = go (leads_up w (upward w)) refl e
+  no-upward : None ≡ upward_in w → leads_up w (upward w) ≡ false
+  no-upward e = go (leads_up w (upward w)) e
     where
-      go : (b : Bool) → leads_up w (upward w) ≡ b → r ≡ cond b (upward w) 0 → Upward w r
-      go true t q = leads q t
-      go false t q = absurd (ne q)
-
-  no-upward : r ≡ 0 → leads_up w (upward w) ≡ false
-  no-upward z = go (leads_up w (upward w)) refl e
-    where
-      go : (b : Bool) → leads_up w (upward w) ≡ b → r ≡ cond b (upward w) 0 → b ≡ false
-      go true t q = let low = (leads q t).low in absurd (omega arith)
-      go false t q = refl
+      go : (b : Bool) → None ≡ edge_if b (upward w) → b ≡ false
+      go true q = absurd (none-some (upward w) q)
+      go false q = refl
 
 -- ---- the steps tried
 -- What a step stores, with the sizes, the start and the counts as they are; and a step made, with k events in the area.
@@ -157,13 +166,17 @@ module _ (w : Config) (k : ℕ) (area : List ℕ) where
       ∙ silent (enact w undo_open).config
       ∙ sym (fit-made w undo_open k area (eq-eqb w.v w.start h))
 
-  -- Along the tree edge into v.
+  -- Along the tree edge into v, unless there is none.
+  pub undo-tree-out : None ≡ upward_in w → out w k area ≡ trying w undo_tree k area
+  unfolding fits
+  undo-tree-out e = sym (unfit-left w undo_tree k area (no-upward w e))
+
+  pub retreat-out : None ≡ upward_in w → out w k area ≡ trying w retreat k area
+  unfolding fits
+  retreat-out e = sym (unfit-left w retreat k area (fails-third (is_edge w.n w.m (upward w)) (is_node w.n w.m (target w (upward w))) (is_link w.n w.m (at 0 (closed w) (upward w))) (no-upward w e)))
+
   module _ {r : ℕ} where
     -- v left, rolling back.
-    pub undo-tree-out : r ≡ upward_in w → r ≡ 0 → out w k area ≡ trying w undo_tree k area
-    unfolding fits
-    undo-tree-out e z = sym (unfit-left w undo_tree k area (no-upward w e z))
-
     pub undo-tree-made : Upward w r → done (stored w w.f r (get_or w.tail (r - w.n - 1) 0) w.phase (set w.after (w.v - 1) w.e) (set w.tail (r - w.n - 1) w.v) w.marks) k area ≡ trying w undo_tree k area
     unfolding fits enact put
     undo-tree-made U =
@@ -174,12 +187,7 @@ module _ (w : Config) (k : ℕ) (area : List ℕ) where
         ∙ silent (enact w undo_tree).config
         ∙ sym (fit-made w undo_tree k area (and-true U.edge U.trailer))
 
-    -- The scan of v ended, which reads a(r) besides.
-    pub retreat-out : r ≡ upward_in w → r ≡ 0 → out w k area ≡ trying w retreat k area
-    unfolding fits
-    retreat-out e z = sym (unfit-left w retreat k area (fails-third (is_edge w.n w.m (upward w)) (is_node w.n w.m (target w (upward w))) (is_link w.n w.m (at 0 (closed w) (upward w))) (no-upward w e z)))
-
-    -- The store into a(v) leaves a(r).
+    -- The scan of v ended, which reads a(r) besides. The store into a(v) leaves a(r).
     module _ (U : Upward w r) (low : 0 < w.v) (high : w.v ≤ w.n) where
       link-read : get_or w.after (r - 1) 0 ≡ at 0 (closed w) r
       unfolding at

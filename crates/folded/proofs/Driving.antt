@@ -8,6 +8,7 @@ use mathlib.Core.List.{List, [], ◌∷◌, ◌++◌, append_assoc, append-nil}
 use Prim.Native.Nat.{ℕ, zero, suc, ◌+◌, ◌-◌, ◌*◌, ◌≤◌}
 use native.Mathlib.Omega.{arith}
 use lib.Dec.{leb}
+use Rattle.std.specs.Prelude.{Some, None}
 use lib.ListN.{length, length-append}
 use borrow.Author.Tests.{leb-true}
 use Rattle.lists.specs.Words.{overlay, pasted}
@@ -25,10 +26,9 @@ use Rattle.folding.proofs.Fields.{Fields}
 use Rattle.folding.proofs.Passed.{passed, lengths}
 use Rattle.folding.proofs.Confined.{Kept, step_kept}
 use Rattle.states.specs.declared.values.State.{State}
-use Rattle.states.specs.declared.values.Reply.{Reply}
 use Rattle.states.specs.declared.values.Reason.{Reason}
 use Rattle.states.specs.declared.values.Reason.TheVariants.{Ended, Spent, Stuck}
-use Rattle.states.specs.Answers.{config_of, reason_of, Seen, seen_of, told, told_ran}
+use Rattle.states.specs.Answers.{config_of, reason_of, Seen, seen_of}
 use Rattle.states.proofs.Numbers.{number-first, number-own, serve-refused, serve-taken}
 use Rattle.folded.specs.Steps.{Attempt, trying, out, made, tried, Ready}
 use Rattle.folded.specs.declared.tried.Tried.{Tried}
@@ -149,46 +149,28 @@ run_on : (k : ℕ) (w : Config) → over w ≡ false → can_step w ≡ true →
 unfolding run
 run_on k w o c = rw (o, c)
 
--- ---- a single step is a run of one
-one-made : (w : Config) → over w ≡ false → can_step w ≡ true → run 1 w ≡ onward (step w).events (stop (cond (over (step w).config) ended spent) (step w).config)
-unfolding run
-one-made w o c = rw (o, c)
-
-module _ (s : State) (after tail marks area : List ℕ) {k : ℕ} (e : k ≡ state_number (config_of s after tail marks) (work_areas (config_of s after tail marks) 6 area) []) (z : k ≡ 0) (o : over (config_of s after tail marks) ≡ false) (r : Reply) (after' tail' marks' area' : List ℕ) (d : told r after' tail' marks' area' ≡ seen_of (perform (config_of s after tail marks) (run_for 1 area))) where
+-- ---- a single step that no condition before its own refuses
+module _ (s : State) (after tail marks area : List ℕ) (e : 0 ≡ state_number (config_of s after tail marks) (work_areas (config_of s after tail marks) 6 area) []) (o : over (config_of s after tail marks) ≡ false) where
   abbrev from : Config
   from = config_of s after tail marks
 
-  -- What is seen of a run of one.
-  abbrev seen : Run → Seen
-  seen x = record { answer = ran x.reason; steps = x.steps; count = length x.events; config = x.config; area = overlay (words x.events) area }
+  -- It does not fit.
+  pub step-stuck : {after' tail' marks' area' : List ℕ} → tried None (config_of s after' tail' marks') 0 area' ≡ trying from (step_of from) 0 area → seen_of (refusing 8 (config_of s after' tail' marks') area') ≡ seen_of (serve from (single area))
+  step-stuck {after' = after'} {tail' = tail'} {marks' = marks'} {area' = area'} t =
+      let T = tried-out from 0 area t refl in
+      ap (λ (x : Attempt). seen_of (refusing 8 x.config x.area)) T.1
+      ∙ ap seen_of (sym (serve-refused from (single area) (own-number s after tail marks area e refl o T.0) (omega arith)))
 
-  makes : can_step from ≡ true → told r after' tail' marks' area' ≡ seen (onward (step from).events (stop (cond (over (step from).config) ended spent) (step from).config))
-  makes c = d ∙ ap seen (one-made from o c)
-
-  sticks : can_step from ≡ false → told r after' tail' marks' area' ≡ seen (stop stuck from)
-  sticks c = d ∙ ap seen (run-stuck 0 from o c)
-
-  -- No step was made: it does not fit.
-  pub step-stuck : r.steps ≡ 0 → seen_of (refusing 8 (config_of s after' tail' marks') area') ≡ seen_of (serve from (single area))
-  step-stuck n = go (can_step from) refl
-    where
-      go : (b : Bool) → can_step from ≡ b → seen_of (refusing 8 (config_of s after' tail' marks') area') ≡ seen_of (serve from (single area))
-      go true c = absurd (let m : r.steps ≡ 1 = ap (λ (x : Seen). x.steps) (makes c) in omega arith)
-      go false c =
-          ap (λ (x : Seen). seen_of (refusing 8 (config_of s x.config.after x.config.tail x.config.marks) x.area)) (sticks c)
-          ∙ ap seen_of (sym (serve-refused from (single area) (own-number s after tail marks area e z o c) (omega arith)))
-
-  -- The step is made.
-  pub step-taken : r.steps ≢ 0 → record { answer = taken; steps = 1; count = r.events; config = config_of r.state after' tail' marks'; area = area' } ≡ seen_of (serve from (single area))
-  step-taken ne = go (can_step from) refl
-    where
-      go : (b : Bool) → can_step from ≡ b → record { answer = taken; steps = 1; count = r.events; config = config_of r.state after' tail' marks'; area = area' } ≡ seen_of (serve from (single area))
-      go true c =
-          let es = (step from).events in
-          ap (λ (x : Seen). record { answer = taken; steps = 1; count = x.count; config = x.config; area = x.area }) (makes c)
-          ∙ ap (λ (l : List Event). record { answer = taken; steps = 1; count = length l; config = (step from).config; area = overlay (words l) area }) (append-nil es)
-          ∙ ap seen_of (sym (serve-taken from (single area) (own-number s after tail marks area e z o c)))
-      go false c = absurd (ne (ap (λ (x : Seen). x.steps) (sticks c)))
+  -- It is made.
+  pub step-taken : (d : Tried) {after' tail' marks' area' : List ℕ} → tried (Some d) (config_of s after' tail' marks') 0 area' ≡ trying from (step_of from) 0 area
+      → record { answer = taken; steps = 1; count = d.made; config = config_of d.state after' tail' marks'; area = area' } ≡ seen_of (serve from (single area))
+  step-taken d t =
+      let T = tried-made from 0 area t refl in
+      let es = (step from).events in
+      let count : 0 + length es ≡ length es = omega arith in
+      ap (λ (x : Attempt). record { answer = taken; steps = 1; count = x.count; config = x.config; area = x.area }) T.1
+      ∙ (λ i. record { answer = taken; steps = 1; count = count i; config = (step from).config; area = pasted-front (words es) area i })
+      ∙ ap seen_of (sym (serve-taken from (single area) (own-number s after tail marks area e refl o T.0)))
 
 -- Events written behind the events so far.
 written_behind : (es fs : List Event) (area : List ℕ) → 3 * length es ≤ length area → pasted (3 * length es) (words fs) (overlay (words es) area) ≡ overlay (words (es ++ fs)) area
@@ -199,6 +181,10 @@ written_behind es fs area h =
     ∙ pasted-pasted 0 area (omega arith) (words es) (words fs) (omega (arith, words-length es))
     ∙ pasted-front (words es ++ words fs) area
     ∙ ap (λ (ws : List ℕ). overlay ws area) (sym (words_append es fs))
+
+-- What is seen of a run that stops.
+abbrev pub told_ran : Reason → (steps count : ℕ) → Config → List ℕ → Seen
+told_ran why steps count w area = record { answer = ran (reason_of why); steps = steps; count = count; config = w; area = area }
 
 -- Where a run of k steps from w₀ is after some of them: the state, the links and marks, and the events so far in their area.
 pub record Going (k : ℕ) (w₀ : Config) (area₀ : List ℕ) (s : State) (after tail marks area : List ℕ) (steps count : ℕ) : Type 0 where
@@ -263,19 +249,19 @@ module _ {k : ℕ} {w₀ : Config} {area₀ : List ℕ} {s : State} {after tail 
       room-left = omega (arith, left, G.room)
 
       -- The next step, as the code has tried it.
-      module _ (r : Tried) (after' tail' marks' area' : List ℕ) (t : tried r after' tail' marks' area' ≡ trying w (step_of w) count area) where
+      module _ {after' tail' marks' area' : List ℕ} where
         -- It does not fit: the run is stuck.
-        pub done_stuck : r.fits ≡ false → told_ran Stuck steps count (config_of s after' tail' marks') area' ≡ seen_of (perform w₀ (run_for k area₀))
-        done_stuck h =
-            let T = tried-out w count area t h in
-            ap (λ (x : Attempt). told_ran Stuck steps count (config_of s x.config.after x.config.tail x.config.marks) x.area) T.1
+        pub done_stuck : tried None (config_of s after' tail' marks') count area' ≡ trying w (step_of w) count area → told_ran Stuck steps count (config_of s after' tail' marks') area' ≡ seen_of (perform w₀ (run_for k area₀))
+        done_stuck t =
+            let T = tried-out w count area t refl in
+            ap (λ (x : Attempt). told_ran Stuck steps count x.config x.area) T.1
             ∙ done Stuck (ap (λ (j : ℕ). run j w) left ∙ run-stuck (k - (steps + 1)) w o T.0)
 
         -- It is made: the run goes on.
-        pub going_on : r.fits ≡ true → length after' ≡ length after → length tail' ≡ length tail → length marks' ≡ length marks → length area' ≡ length area
+        pub going_on : (r : Tried) → tried (Some r) (config_of s after' tail' marks') count area' ≡ trying w (step_of w) count area → length after' ≡ length after → length tail' ≡ length tail → length marks' ≡ length marks → length area' ≡ length area
             → Going k w₀ area₀ r.state after' tail' marks' area' (steps + 1) r.made
-        going_on h la lt lm le =
-            let T = tried-made w count area t h in
+        going_on r t la lt lm le =
+            let T = tried-made w count area t refl in
             let u = config_of r.state after' tail' marks' in
             let es = (step w).events in
             let c : u ≡ (step w).config = ap (λ (x : Attempt). x.config) T.1 in

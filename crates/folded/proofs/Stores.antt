@@ -2,12 +2,12 @@
 use mathlib.Core.Path.{◌≡◌, refl, sym, ap, ◌∙◌}
 use mathlib.Core.Logic.{◌≢◌}
 use mathlib.Core.Bool.{Bool, true, false, cond}
-use mathlib.Core.List.{List, [], ◌∷◌}
-use Prim.Native.Nat.{ℕ, suc, ◌+◌, ◌-◌, ◌*◌, ◌≤◌, ◌<◌}
+use mathlib.Core.List.{List}
+use Prim.Native.Nat.{ℕ, suc, ◌-◌, ◌≤◌, ◌<◌}
 use native.Mathlib.Omega.{arith}
 use lib.ListN.{length, get_or, set}
-use Rattle.lists.specs.Words.{at, put, pasted}
-use Rattle.lists.proofs.Words.{at-put, at_other, pasted-pasted, read_at}
+use Rattle.lists.specs.Words.{at, put}
+use Rattle.lists.proofs.Words.{at-put, at_other, read_at}
 use Rattle.folding.specs.Machine.{Config, Step, fits, enact}
 use Rattle.folded.specs.Steps.{out, made, trying}
 
@@ -27,17 +27,6 @@ read-own l x v e is low high = sym (at-put 0 l v e low (omega arith)) ∙ ap (λ
 
 pub read-other : (l : List ℕ) (x v e : ℕ) → x ≢ v → 0 < x → 0 < v → get_or l (x - 1) 0 ≡ at 0 (put 0 l v e) x
 read-other l x v e ne low vlow = sym (read_at l x) ∙ sym (at_other 0 l v x e vlow low ne)
-
--- Three words behind three words.
-pub six-pasted : (k : ℕ) (area : List ℕ) (a r u b q x : ℕ) {one two : List ℕ} → 3 * k + 6 ≤ length area
-    → one ≡ pasted (3 * k) (a ∷ r ∷ u ∷ []) area
-    → two ≡ pasted (3 * (k + 1)) (b ∷ q ∷ x ∷ []) one
-    → two ≡ pasted (3 * k) (a ∷ r ∷ u ∷ b ∷ q ∷ x ∷ []) area
-six-pasted k area a r u b q x h first second =
-    let next : 3 * (k + 1) ≡ 3 * k + 3 = omega arith in
-    second
-    ∙ (λ i. pasted (next i) (b ∷ q ∷ x ∷ []) (first i))
-    ∙ pasted-pasted (3 * k) area (omega arith) (a ∷ r ∷ u ∷ []) (b ∷ q ∷ x ∷ []) (omega arith)
 
 -- A step that does not fit leaves all as it was, and one that fits is made.
 module _ (w : Config) (p : Step) (k : ℕ) (area : List ℕ) where

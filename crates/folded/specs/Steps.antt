@@ -1,5 +1,5 @@
 -- A step tried on any words that its areas hold: it fits and is made, or it is out of kind and nothing changes.
-use Rattle.std.specs.Prelude.{◌≢◌, Bool, true, false, cond, ◌&&◌, List, ℕ, suc, ◌+◌, ◌*◌, ◌≤◌, ◌<◌, length}
+use Rattle.std.specs.Prelude.{◌≢◌, Bool, true, false, cond, ◌&&◌, List, ℕ, suc, ◌+◌, ◌*◌, ◌≤◌, ◌<◌, length, Option, Some, None}
 use Rattle.lists.specs.Words.{pasted}
 use Rattle.graphs.specs.Nodes.{is_edge, is_node}
 use Rattle.graphs.specs.Events.{words}
@@ -27,17 +27,18 @@ made s k area = record { fit = true; config = s.config; count = k + length s.eve
 unfoldable pub trying : Config → Step → ℕ → List ℕ → Attempt
 trying w p k area = cond (fits w p) (made (enact w p) k area) (out w k area)
 
--- What the code tells of it.
-abbrev pub tried : code.Tried → (after tail marks area : List ℕ) → Attempt
-tried r after tail marks area = record { fit = r.fits; config = config_of r.state after tail marks; count = r.made; area = area }
+-- What the code tells of it: `kept` is what it is given, with the areas as they are left, and k the number of events before it.
+abbrev pub tried : Option code.Tried → (kept : Config) → ℕ → List ℕ → Attempt
+tried (Some r) kept k area = record { fit = true; config = config_of r.state kept.after kept.tail kept.marks; count = r.made; area = area }
+tried None kept k area = out kept k area
 
 -- The step forward: along a tree edge where t(e) is unmarked.
 abbrev pub onward : Config → Step
 onward w = cond (fresh w) tree nontree
 
--- a(f) as a close reads it; 0 where it is no edge, or its tail word cannot be a trailer.
-abbrev pub upward_in : Config → ℕ
-upward_in w = cond (is_edge w.n w.m (upward w) && is_node w.n w.m (target w (upward w))) (upward w) 0
+-- a(f) as a close reads it; none where it is no edge, or its tail word cannot be a trailer.
+abbrev pub upward_in : Config → Option ℕ
+upward_in w = cond (is_edge w.n w.m (upward w) && is_node w.n w.m (target w (upward w))) (Some (upward w)) None
 
 -- Sizes within the limits, state fields in kind, and areas of a after words, t tail words and k marks as long as stated.
 pub record Ready (s : State) (a t k : ℕ) : Type 0 where

@@ -6,9 +6,10 @@ ghost use Rattle.folding.specs.Machine.{tree, nontree, unscanned};
 ghost use Rattle.states.specs.Answers.{config_of};
 ghost use Rattle.folded.specs.Steps.{Ready, tried, trying, onward};
 
-use crate::tried::{Tried, read_after, unfit, write_two};
+use crate::tried::{Tried, read_after, write};
 use images::{Edge, Vertex, is_link, is_vertex};
 use states::State;
+use walks::Kind;
 
 // Goes on along e to x, which is not labelled: a(v) becomes e; v, f, t(e) become x, v, f; x is marked 32,768 plus the next label number.
 fn tree(
@@ -19,20 +20,20 @@ fn tree(
     marks: &mut [u16],
     events: &mut [u16],
     made: usize,
-) -> Tried
+) -> Option<Tried>
     requires { Ready s (length after.old) (length tail.old) (length marks.old) × (s.n < s.e.0) × (x ≡ at s.n tail.old s.e.0) × (0 < x) × (x ≤ s.n) × (3 * made + 6 ≤ length events.old) }
-    ensures { tried result after.new tail.new marks.new events.new ≡ trying (config_of s after.old tail.old marks.old) tree made events.old }
+    ensures { tried result (config_of s after.new tail.new marks.new) made events.new ≡ trying (config_of s after.old tail.old marks.old) tree made events.old }
 {
     let n = s.n;
     let v = s.v.0;
     let e = s.e.0;
     let label = s.next;
     if label > n {
-        return unfit(s, made);
+        return None;
     }
     let w = Edge(read_after(after, x, v, e));
     if !is_link(n, s.m, w) {
-        return unfit(s, made);
+        return None;
     }
     let i = v as usize - 1;
     after[i] = e;
@@ -40,25 +41,22 @@ fn tree(
     tail[j] = s.f;
     let k = x as usize - 1;
     marks[k] = label + 32768; // not yet scanned
-    write_two(events, made, 2, e, v, 1, 0, x);
-    let u = Vertex(x);
-    let start = s.start;
-    let t = State {
-        n: s.n,
-        m: s.m,
-        start: start,
-        v: u,
+    write(
+        events,
+        made,
+        &[Kind::AdvanceTree as u16, e, v, Kind::Label as u16, 0, x],
+    );
+    let state = State {
+        v: Vertex(x),
         e: w,
         f: v,
-        phase: s.phase,
         next: label + 1,
-        circular: s.circular,
+        ..s
     };
-    Tried {
-        fits: true,
+    Some(Tried {
         made: made + 2,
-        state: t,
-    }
+        state,
+    })
 }
 
 // Circular, once an edge was met that leads to a vertex with this mark: 1 where that is labelled and not yet scanned, and is not one on
@@ -66,48 +64,49 @@ fn tree(
 fn circled(mark: u16, circular: u16) -> u16
     ensures { result ≡ cond (unscanned mark) 1 circular }
 {
-    if mark == 65535 {
-        return circular;
+    if mark >= 32768 && mark != 65535 {
+        1
+    } else {
+        circular
     }
-    if mark >= 32768 {
-        return 1;
-    }
-    circular
 }
 
 // Passes e, which leads to a labelled vertex with this mark: e, f, a(e) become a(e), e, f.
-fn nontree(s: State, mark: u16, after: &mut [u16], events: &mut [u16], made: usize) -> Tried
+fn nontree(s: State, mark: u16, after: &mut [u16], events: &mut [u16], made: usize) -> Option<Tried>
     requires { (0 < s.e.0) × (s.e.0 ≤ length after.old) × (3 * made + 6 ≤ length events.old) }
-    ensures { (tail marks : List ℕ) → is_vertex s.n (at s.n tail s.e.0) ≡ true → mark ≡ at 0 marks (at s.n tail s.e.0) → tried result after.new tail marks events.new ≡ trying (config_of s after.old tail marks) nontree made events.old }
+    ensures { (tail marks : List ℕ) → is_vertex s.n (at s.n tail s.e.0) ≡ true → mark ≡ at 0 marks (at s.n tail s.e.0) → tried result (config_of s after.new tail marks) made events.new ≡ trying (config_of s after.old tail marks) nontree made events.old }
 {
     let v = s.v.0;
     let e = s.e.0;
     let i = e as usize - 1;
     let w = Edge(after[i]);
     if !is_link(s.n, s.m, w) {
-        return unfit(s, made);
+        return None;
     }
     let circular = circled(mark, s.circular);
     after[i] = s.f;
-    write_two(events, made, 3, e, v, 4, e, v);
-    let start = s.start;
-    let at = s.v;
-    let t = State {
-        n: s.n,
-        m: s.m,
-        start: start,
-        v: at,
+    write(
+        events,
+        made,
+        &[
+            Kind::AdvanceNontree as u16,
+            e,
+            v,
+            Kind::RetreatNontree as u16,
+            e,
+            v,
+        ],
+    );
+    let state = State {
         e: w,
         f: e,
-        phase: s.phase,
-        next: s.next,
-        circular: circular,
+        circular,
+        ..s
     };
-    Tried {
-        fits: true,
+    Some(Tried {
         made: made + 2,
-        state: t,
-    }
+        state,
+    })
 }
 
 // Traverses e.
@@ -118,15 +117,15 @@ pub(crate) fn advance(
     marks: &mut [u16],
     events: &mut [u16],
     made: usize,
-) -> Tried
+) -> Option<Tried>
     requires { Ready s (length after.old) (length tail.old) (length marks.old) × (s.n < s.e.0) × (3 * made + 6 ≤ length events.old) }
-    ensures { tried result after.new tail.new marks.new events.new ≡ trying (config_of s after.old tail.old marks.old) (onward (config_of s after.old tail.old marks.old)) made events.old }
+    ensures { tried result (config_of s after.new tail.new marks.new) made events.new ≡ trying (config_of s after.old tail.old marks.old) (onward (config_of s after.old tail.old marks.old)) made events.old }
 {
     let n = s.n;
     let j = s.e.0 as usize - n as usize - 1;
     let x = tail[j];
     if !is_vertex(n, Vertex(x)) {
-        return unfit(s, made);
+        return None;
     }
     let k = x as usize - 1;
     let mark = marks[k];

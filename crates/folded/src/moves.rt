@@ -7,7 +7,7 @@ ghost use Rattle.folded.specs.Steps.{Ready, tried, trying};
 use crate::back::{finish, relink, retreat, undo_open, undo_tree};
 use crate::forward::advance;
 use crate::tried::Tried;
-use states::State;
+use states::{Phase, State};
 
 // The step to come where it does not go forward.
 fn go_back(
@@ -17,15 +17,15 @@ fn go_back(
     marks: &mut [u16],
     events: &mut [u16],
     made: usize,
-) -> Tried
+) -> Option<Tried>
     requires { Ready s (length after.old) (length tail.old) (length marks.old) × (forward (config_of s after.old tail.old marks.old) ≡ false) × (3 * made + 6 ≤ length events.old) }
-    ensures { tried result after.new tail.new marks.new events.new ≡ trying (config_of s after.old tail.old marks.old) (step_of (config_of s after.old tail.old marks.old)) made events.old }
+    ensures { tried result (config_of s after.new tail.new marks.new) made events.new ≡ trying (config_of s after.old tail.old marks.old) (step_of (config_of s after.old tail.old marks.old)) made events.old }
 {
     let f = s.f;
     if f > s.n {
         return relink(s, after, made);
     }
-    if s.phase == 4 {
+    if s.phase == Phase::RollingBack as u16 {
         if f == 0 {
             return undo_open(s, after, marks, made);
         }
@@ -45,14 +45,12 @@ pub(crate) fn make(
     marks: &mut [u16],
     events: &mut [u16],
     made: usize,
-) -> Tried
+) -> Option<Tried>
     requires { Ready s (length after.old) (length tail.old) (length marks.old) × (3 * made + 6 ≤ length events.old) }
-    ensures { tried result after.new tail.new marks.new events.new ≡ trying (config_of s after.old tail.old marks.old) (step_of (config_of s after.old tail.old marks.old)) made events.old }
+    ensures { tried result (config_of s after.new tail.new marks.new) made events.new ≡ trying (config_of s after.old tail.old marks.old) (step_of (config_of s after.old tail.old marks.old)) made events.old }
 {
-    if s.phase == 1 {
-        if s.e.0 != 0 {
-            return advance(s, after, tail, marks, events, made);
-        }
+    if s.phase == Phase::Walking as u16 && s.e.0 != 0 {
+        return advance(s, after, tail, marks, events, made);
     }
     go_back(s, after, tail, marks, events, made)
 }

@@ -1,28 +1,22 @@
-use native.Mathlib.Omega.{arith}
+use Rattle.std.proofs.Common.{arith}
 use Rattle.states.specs.Answers.{config_of}
 use Rattle.folded.proofs.Picked.{but-marks, coming, picks-relink, picks-undo-open, picks-undo-tree, picks-finish, picks-retreat}
 use Rattle.folded.proofs.moves.go_back.Goals as goal
 
--- src/moves.rt:32:9
 pub returns-then-f-s : goal.returns-then-f-s
 returns-then-f-s c = let z = c.args in let w = config_of z.s z.after.now z.tail.now z.marks.now in coming w z.made z.events.now (picks-relink w c.requires.1 c.if-f-s.true) (c.relink.ensures z.tail.now z.marks.now z.events.now)
 
--- src/moves.rt:36:13
 pub returns-then-f-eq0 : goal.returns-then-f-eq0
-returns-then-f-eq0 c = let z = c.args in let w = config_of z.s z.after.now z.tail.now z.marks.now in coming w z.made z.events.now (picks-undo-open w c.requires.1 c.if-f-s.false c.if-s-eq4.true c.if-f-eq0.true) (c.undo_open.ensures z.tail.now z.events.now)
+returns-then-f-eq0 c = let z = c.args in let w = config_of z.s z.after.now z.tail.now z.marks.now in coming w z.made z.events.now (picks-undo-open w c.requires.1 c.if-f-s.false c.if-s.true c.if-f-eq0.true) (c.undo_open.ensures z.tail.now z.events.now)
 
--- src/moves.rt:38:9
 pub undo_tree-requires : goal.undo_tree-requires
 undo_tree-requires c = let p = c.requires in (but-marks c.args.s p.0, omega (arith, c.if-f-eq0.false), c.if-f-s.false)
 
--- src/moves.rt:38:9
-pub returns-then-s-eq4 : goal.returns-then-s-eq4
-returns-then-s-eq4 c = let z = c.args in let w = config_of z.s z.after.now z.tail.now z.marks.now in coming w z.made z.events.now (picks-undo-tree w c.requires.1 c.if-f-s.false c.if-s-eq4.true c.if-f-eq0.false) (c.undo_tree.ensures z.marks.now z.events.now)
+pub returns-then-s : goal.returns-then-s
+returns-then-s c = let z = c.args in let w = config_of z.s z.after.now z.tail.now z.marks.now in coming w z.made z.events.now (picks-undo-tree w c.requires.1 c.if-f-s.false c.if-s.true c.if-f-eq0.false) (c.undo_tree.ensures z.marks.now z.events.now)
 
--- src/moves.rt:41:9
 pub returns-then-f-eq0-2 : goal.returns-then-f-eq0-2
-returns-then-f-eq0-2 c = let z = c.args in let w = config_of z.s z.after.now z.tail.now z.marks.now in coming w z.made z.events.now (picks-finish w c.requires.1 c.if-f-s.false c.if-s-eq4.false c.if-f-eq0-2.true) (c.finish.ensures z.tail.now)
+returns-then-f-eq0-2 c = let z = c.args in let w = config_of z.s z.after.now z.tail.now z.marks.now in coming w z.made z.events.now (picks-finish w c.requires.1 c.if-f-s.false c.if-s.false c.if-f-eq0-2.true) (c.finish.ensures z.tail.now)
 
--- src/moves.rt:19:1
 pub returns : goal.returns
-returns c = let z = c.args in let w = config_of z.s z.after.now z.tail.now z.marks.now in coming w z.made z.events.now (picks-retreat w c.requires.1 c.if-f-s.false c.if-s-eq4.false c.if-f-eq0-2.false) c.retreat.ensures
+returns c = let z = c.args in let w = config_of z.s z.after.now z.tail.now z.marks.now in coming w z.made z.events.now (picks-retreat w c.requires.1 c.if-f-s.false c.if-s.false c.if-f-eq0-2.false) c.retreat.ensures
