@@ -36,9 +36,7 @@ pub(crate) fn put_of(area: &mut [u16], x: u16, w: u16) {
 
 // An area of this length, its first words cleared and the others untouched.
 pub(crate) fn cleared(alloc: Global, top: usize, length: usize) -> Result<Vec<u16>, AllocError> {
-    let mut area = vec![in alloc; 0; top]?;
-    area.resize(length, UNTOUCHED)?;
-    Ok(area)
+    padded(vec![in alloc; 0; top]?, length)
 }
 
 // These words, followed by untouched ones up to this length.

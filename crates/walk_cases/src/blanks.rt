@@ -1,5 +1,6 @@
 // Lists of the elements already on the blank, made by a fixed rule: some that are taken, and words by chance.
 use crate::areas::word;
+use crate::chance::{BIT, LENGTH, LISTED, ONE, WORD};
 use crate::profiles::{Plan, Profile};
 use std::alloc::{AllocError, Global};
 
@@ -32,10 +33,10 @@ impl Form {
 
     // Whether a list of this form has vertex x on it, where that is not the start.
     fn has(self, plan: Plan, profile: &Profile, x: u16) -> bool {
-        let place = 9100 + u32::from(x);
+        let place = LISTED + u32::from(x);
         match self {
             Form::Given => false,
-            Form::One => x == plan.seed.draw_from_one(9031, plan.vertices),
+            Form::One => x == plan.seed.draw_from_one(ONE, plan.vertices),
             Form::Few => plan.seed.draw(place, 4) == 0,
             Form::Others => true,
             Form::Neighbours => profile
@@ -65,10 +66,10 @@ impl Form {
 fn word_by_chance(plan: Plan, i: u16) -> u16 {
     let seed = plan.seed;
     let at = u32::from(i);
-    let bit = u32::from(seed.draw(9200 + at, 2) == 1);
+    let bit = u32::from(seed.draw(BIT + at, 2) == 1);
     let any = match seed.code() % 8 {
-        0 => u32::from(seed.draw(9300 + at, plan.vertices.saturating_add(2))),
-        1 => u32::from(seed.draw(9300 + at, 32768)) * 2 + bit,
+        0 => u32::from(seed.draw(WORD + at, plan.vertices.saturating_add(2))),
+        1 => u32::from(seed.draw(WORD + at, 32768)) * 2 + bit,
         2 => at + 1,
         3 => u32::from(plan.vertices.saturating_sub(i)),
         4 => u32::from(plan.start),
@@ -81,6 +82,6 @@ fn word_by_chance(plan: Plan, i: u16) -> u16 {
 
 // A list of words by chance, up to three longer than there are vertices.
 pub(crate) fn list_by_chance(alloc: Global, plan: Plan) -> Result<Vec<u16>, AllocError> {
-    let top = plan.seed.draw(9040, plan.vertices.saturating_add(4));
+    let top = plan.seed.draw(LENGTH, plan.vertices.saturating_add(4));
     (0..top).map(|i| word_by_chance(plan, i)).collect(alloc)
 }

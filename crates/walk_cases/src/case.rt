@@ -62,6 +62,7 @@ impl Lengths {
     }
 }
 
+// The walker, the profile that the links were made from, and all that is passed.
 #[derive(Drop)]
 pub(crate) struct Case {
     pub(crate) walker: Walker,

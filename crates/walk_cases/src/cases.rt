@@ -1,6 +1,7 @@
 // The cases of each group.
 use crate::blanks::{Form, list_by_chance};
 use crate::case::Case;
+use crate::chance::{EDGES, FORM, SIZE, START};
 use crate::compare::walk;
 use crate::faults::{Fault, damage_links, lessen};
 use crate::profiles::{EXAMPLE, Family, Plan, Seed};
@@ -15,20 +16,20 @@ fn small(seed: Seed) -> Plan {
         Seed {
             family: Family::Complete,
             ..
-        } => (seed.draw_from_one(9001, 7), 49),
-        _ => (seed.draw_from_one(9001, 12), seed.draw(9002, 17)),
+        } => (seed.draw_from_one(SIZE, 7), 49),
+        _ => (seed.draw_from_one(SIZE, 12), seed.draw(EDGES, 17)),
     };
     Plan {
         seed,
         vertices,
         edges,
-        start: seed.draw_from_one(9003, vertices),
+        start: seed.draw_from_one(START, vertices),
     }
 }
 
 // The form of a list, by chance: an empty one in two of eight.
 fn form(seed: Seed) -> Form {
-    Form::nth(seed.draw(9030, 8))
+    Form::nth(seed.draw(FORM, 8))
 }
 
 // A hundred seeds of each family.
@@ -73,7 +74,7 @@ pub(crate) fn long_case(alloc: Global, walker: Walker, i: u16) -> Result<Outcome
         seed,
         vertices: if number == 6 { 1001 } else { 1000 },
         edges: if number == 7 { 4001 } else { 4000 },
-        start: seed.draw_from_one(9003, if number % 2 == 1 { 1000 } else { 1 }),
+        start: seed.draw_from_one(START, if number % 2 == 1 { 1000 } else { 1 }),
     };
     let form = Form::nth((family + number % 8) % 8);
     let case = Case::new(alloc, walker, plan, form)?;
@@ -87,8 +88,8 @@ pub(crate) fn damaged_case(alloc: Global, walker: Walker, i: u16) -> Result<Outc
         number: i,
     };
     let mut case = Case::new(alloc, walker, small(seed), form(seed))?;
-    damage_links(&mut case, seed.code());
-    lessen(&mut case, seed.code());
+    damage_links(&mut case, seed);
+    lessen(&mut case, seed);
     outcome(alloc, &case)
 }
 

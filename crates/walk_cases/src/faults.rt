@@ -1,7 +1,8 @@
 // Faults and damages of a case: each is a word that is put in place of another.
 use crate::areas::put;
 use crate::case::{Area, Case};
-use crate::chance::draw;
+use crate::chance::{DAMAGE, DAMAGED, FIRST_EDGE, LESS, LESSENED, draw};
+use crate::profiles::Seed;
 use crate::walker::Walker;
 
 // Faults of the example: a size, a length, the start, a link, a tail, a link that puts an edge on a second list or on a ring, and the last
@@ -56,41 +57,36 @@ impl Fault {
 
 // Damages one of the first `top` words of an area: puts null there, a word out of range, or another one, or leaves it.
 fn damage(area: &mut [u16], seed: u32, top: u16, out: u16, other: u16) {
-    let w = match draw(seed, 9012, 8) {
+    let w = match draw(seed, DAMAGE, 8) {
         0 => 0,
         1 => out,
         2 | 3 => other,
         _ => return,
     };
-    put(area, usize::from(draw(seed, 9010, top)), w);
+    put(area, usize::from(draw(seed, DAMAGED, top)), w);
 }
 
 // Damages a link and a tail. In place of a link comes a first edge, or for an array form null, which is never a first position.
-pub(crate) fn damage_links(case: &mut Case, seed: u32) {
+pub(crate) fn damage_links(case: &mut Case, seed: Seed) {
     let n = case.vertices;
     let m = case.edges;
     let nodes = n.saturating_add(m);
     let out = nodes.saturating_add(1);
+    let code = seed.code();
     if case.walker == Walker::DfsArray {
-        damage(&mut case.links, seed, n.saturating_add(1), out, 0);
+        damage(&mut case.links, code, n.saturating_add(1), out, 0);
     } else {
-        let first = usize::from(draw(seed, 9011, n));
+        let first = usize::from(seed.draw(FIRST_EDGE, n));
         let other = case.links.get(first).copied().unwrap_or(0);
-        damage(&mut case.links, seed, nodes, out, other);
+        damage(&mut case.links, code, nodes, out, other);
     }
-    damage(
-        &mut case.tails,
-        seed.saturating_add(20000),
-        m,
-        n.saturating_add(1),
-        0,
-    );
+    damage(&mut case.tails, code + 20000, m, n.saturating_add(1), 0);
 }
 
 // Lessens the start, the length of an area, which then is as long as stated, too short, or still longer, or the length of the list.
-pub(crate) fn lessen(case: &mut Case, seed: u32) {
-    let by = draw(seed, 9021, 5);
-    match draw(seed, 9020, 7) {
+pub(crate) fn lessen(case: &mut Case, seed: Seed) {
+    let by = seed.draw(LESS, 5);
+    match seed.draw(LESSENED, 7) {
         0 => case.start = case.start.saturating_sub(by),
         6 => case
             .listed

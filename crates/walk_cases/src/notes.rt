@@ -6,6 +6,7 @@ use crate::profiles::Edge;
 use crate::second::ON_BLANK;
 use std::alloc::{AllocError, Global};
 
+// A thing that is met.
 #[derive(Clone, Copy, PartialEq, Eq)]
 pub(crate) enum Thing {
     // In a walk with a list of some form, that form.

@@ -22,6 +22,7 @@ pub(crate) enum Kind {
     Traverse = 7,
 }
 
+// An event: a kind, an edge or 0, and a vertex.
 #[derive(Clone, Copy)]
 pub(crate) struct Event {
     pub(crate) kind: Kind,
@@ -75,6 +76,7 @@ struct Scan<'a> {
     at: usize,
 }
 
+// A search under way: how many vertices it has labelled, and what it has left so far.
 #[derive(Drop)]
 struct Search<'a> {
     walker: Walker,

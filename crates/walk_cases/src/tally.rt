@@ -14,7 +14,7 @@ pub(crate) struct Outcome {
 // The numbers of refusals that a walk can answer.
 const NUMBERS: [u16; 9] = [1, 2, 3, 4, 5, 6, 7, 17, 18];
 
-// Prints one line: the name of a group in two parts, and what its cases gave.
+// Prints one line: the walker, the name of a group, and what its cases gave.
 pub(crate) fn print_counts(
     rt: &impl Print,
     walker: Walker,

@@ -19,6 +19,7 @@ impl Walker {
         Walker::BfsFolded,
     ];
 
+    // Whether it searches breadth-first.
     pub(crate) fn is_breadth_first(self) -> bool {
         match self {
             Walker::BfsQueue | Walker::BfsFolded => true,
