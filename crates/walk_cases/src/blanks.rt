@@ -1,82 +1,87 @@
 // Lists of the elements already on the blank, made by a fixed rule: some that are taken, and words by chance.
-use crate::areas::{
-    BLANK, CASE, Desk, FORM, FROMS, LISTED, N, SEED, STACK, START, TOS, get_at, get_of, put_at,
-    put_of, raise, said, word,
-};
-use crate::chance::draw;
-use crate::faults::less;
+use crate::areas::word;
+use crate::chance::{BIT, LENGTH, LISTED, ONE, WORD};
+use crate::profiles::{Plan, Profile};
+use std::alloc::{AllocError, Global};
 
-// Vertex i + 1.
-pub(crate) fn vertex_at(i: usize) -> u16 {
-    word(i as u64 % 65536 + 1)
+// Forms of lists: words that are given, one vertex, few, all, the start's neighbours, the last vertex, about half. The start is on none
+// but the first.
+#[derive(Clone, Copy, PartialEq, Eq)]
+pub(crate) enum Form {
+    Given,
+    One,
+    Few,
+    Others,
+    Neighbours,
+    Last,
+    Half,
 }
 
-// Notes the vertex that edge i leads to, where it leaves the start.
-pub(crate) fn note_neighbour(d: &mut Desk, i: usize) {
-    if get_at(d, FROMS, i) == said(d, START) {
-        let x = get_at(d, TOS, i);
-        put_of(d, STACK, x, 1);
+impl Form {
+    // The forms by eight numbers, of which two give an empty list.
+    pub(crate) fn nth(k: u16) -> Form {
+        match k {
+            1 => Form::One,
+            2 => Form::Few,
+            3 => Form::Others,
+            4 => Form::Neighbours,
+            5 => Form::Last,
+            6 => Form::Half,
+            _ => Form::Given,
+        }
     }
-}
 
-// Whether a list of this form has x on it: one vertex, few, all, the start's neighbours, the last vertex, about half; else none.
-fn is_chosen(form: u16, seed: u64, n: u16, x: u16, neighbour: bool) -> bool {
-    let place = 9100 + x as u64;
-    match form {
-        1 => draw(seed, 9031, n) as u64 + 1 == x as u64,
-        2 => draw(seed, place, 4) == 0,
-        3 => true,
-        4 => neighbour,
-        5 => x == n,
-        6 => draw(seed, place, 2) == 0,
-        _ => false,
+    // Whether a list of this form has vertex x on it, where that is not the start.
+    fn has(self, plan: Plan, profile: &Profile, x: u16) -> bool {
+        let place = LISTED + u32::from(x);
+        match self {
+            Form::Given => false,
+            Form::One => x == plan.seed.draw_from_one(ONE, plan.vertices),
+            Form::Few => plan.seed.draw(place, 4) == 0,
+            Form::Others => true,
+            Form::Neighbours => profile
+                .edges
+                .iter()
+                .any(|edge| edge.from == plan.start && edge.to == x),
+            Form::Last => x == plan.vertices,
+            Form::Half => plan.seed.draw(place, 2) == 0,
+        }
     }
-}
 
-// Puts vertex i + 1 behind those on the list, where the form of the list has it. The start is never on it.
-pub(crate) fn list_vertex(d: &mut Desk, i: usize) {
-    let x = vertex_at(i);
-    if x == said(d, START) {
-        return;
-    }
-    let neighbour = get_of(d, STACK, x) == 1;
-    if is_chosen(
-        said(d, FORM),
-        said(d, SEED) as u64,
-        said(d, N),
-        x,
-        neighbour,
-    ) {
-        let k = said(d, LISTED);
-        put_at(d, BLANK, k as usize, x);
-        raise(d, CASE, LISTED, 1);
+    // The list of this form.
+    pub(crate) fn list(
+        self,
+        alloc: Global,
+        plan: Plan,
+        profile: &Profile,
+    ) -> Result<Vec<u16>, AllocError> {
+        (1..=plan.vertices)
+            .filter(|x| *x != plan.start && self.has(plan, profile, *x))
+            .collect(alloc)
     }
 }
 
 // Word i of a list by chance: small words, any words, the vertices in order and backwards, the start over and over, words that rise or
 // stay, from 0 and from 1, and words that rise.
-fn word_by_chance(seed: u64, n: u16, start: u16, i: u16) -> u64 {
-    let at = i as u64;
-    let bit = draw(seed, 9200 + at, 2) as u64;
-    match seed % 8 {
-        0 => draw(seed, 9300 + at, n % 32768 + 2) as u64,
-        1 => draw(seed, 9300 + at, 32768) as u64 * 2 + bit,
+fn word_by_chance(plan: Plan, i: u16) -> u16 {
+    let seed = plan.seed;
+    let at = u32::from(i);
+    let bit = u32::from(seed.draw(BIT + at, 2) == 1);
+    let any = match seed.code() % 8 {
+        0 => u32::from(seed.draw(WORD + at, plan.vertices.saturating_add(2))),
+        1 => u32::from(seed.draw(WORD + at, 32768)) * 2 + bit,
         2 => at + 1,
-        3 => less(n, i) as u64,
-        4 => start as u64,
+        3 => u32::from(plan.vertices.saturating_sub(i)),
+        4 => u32::from(plan.start),
         5 => at + bit,
         6 => at + 1 + bit,
         _ => at * 2 + 1 + bit,
-    }
+    };
+    word(any as usize)
 }
 
-// Puts a word by chance at place i of the list.
-pub(crate) fn list_by_chance(d: &mut Desk, i: usize) {
-    let w = word_by_chance(
-        said(d, SEED) as u64,
-        said(d, N),
-        said(d, START),
-        word(i as u64 % 65536),
-    );
-    put_at(d, BLANK, i, word(w));
+// A list of words by chance, up to three longer than there are vertices.
+pub(crate) fn list_by_chance(alloc: Global, plan: Plan) -> Result<Vec<u16>, AllocError> {
+    let top = plan.seed.draw(LENGTH, plan.vertices.saturating_add(4));
+    (0..top).map(|i| word_by_chance(plan, i)).collect(alloc)
 }

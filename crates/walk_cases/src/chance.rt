@@ -1,18 +1,55 @@
 // Numbers by chance, the same in every run: linear congruential steps in 32 bits, the higher half folded into the lower between them.
-use crate::areas::word;
+ghost use Rattle.std.specs.Prelude.{◌<◌};
 
-fn folded(x: u64) -> u64 {
-    let y = x % 4294967296;
-    y ^ (y >> 16)
+// The places of the draws of a seed. Edge i of a profile has 2 i and 2 i + 1: below 9,000.
+//
+// Of a small profile: how many vertices and edges it has, and its start.
+pub(crate) const SIZE: u32 = 9001;
+
+pub(crate) const EDGES: u32 = 9002;
+
+pub(crate) const START: u32 = 9003;
+
+// Of a damage: the word that is damaged, the first edge that may come in its place, and what does.
+pub(crate) const DAMAGED: u32 = 9010;
+
+pub(crate) const FIRST_EDGE: u32 = 9011;
+
+pub(crate) const DAMAGE: u32 = 9012;
+
+// Of a number that is lessened: which it is, and by how much.
+pub(crate) const LESSENED: u32 = 9020;
+
+pub(crate) const LESS: u32 = 9021;
+
+// Of a list: its form, its only vertex, and how many words it has by chance.
+pub(crate) const FORM: u32 = 9030;
+
+pub(crate) const ONE: u32 = 9031;
+
+pub(crate) const LENGTH: u32 = 9040;
+
+// From here on: for each vertex, whether it is on the list; for each word by chance, one bit and the others.
+pub(crate) const LISTED: u32 = 9100;
+
+pub(crate) const BIT: u32 = 9200;
+
+pub(crate) const WORD: u32 = 9300;
+
+// The higher half of a number folded into the lower.
+fn folded(x: u32) -> u32 {
+    x ^ (x >> 16)
 }
 
 // The draw of a seed at a place, both below 65,536: a number below k, and 0 where k is 0.
-pub(crate) fn draw(seed: u64, place: u64, k: u16) -> u16 {
+pub(crate) fn draw(seed: u32, place: u32, k: u16) -> u16
+    ensures { result < 32768 }
+{
     if k == 0 {
         return 0;
     }
-    let x = folded(seed % 65536 * 65536 + place % 65536);
-    let y = folded(x % 4294967296 * 2146121005);
-    let z = folded(y % 4294967296 * 2221713035);
-    word(z) % 32768 % k
+    let x = folded((seed << 16) | place);
+    let y = folded(x.wrapping_mul(2146121005));
+    let z = folded(y.wrapping_mul(2221713035));
+    (z & 0x7fff) as u16 % k
 }

@@ -1,64 +1,96 @@
-// Faults of the case on the desk, the example: each is a word that is put in place of another.
-use crate::areas::{BLANK, CASE, Desk, LENGTHS, LINKS, M, N, SEED, START, TAILS, put_at, said};
+// Faults and damages of a case: each is a word that is put in place of another.
+use crate::areas::put;
+use crate::case::{Area, Case};
+use crate::chance::{DAMAGE, DAMAGED, FIRST_EDGE, LESS, LESSENED, draw};
+use crate::profiles::Seed;
+use crate::walker::Walker;
 
-// The difference, or 0.
-pub(crate) fn less(a: u16, b: u16) -> u16 {
-    if a < b { 0 } else { a - b }
+// Faults of the example: a size, a length, the start, a link, a tail, a link that puts an edge on a second list or on a ring, and the last
+// and the first word of the list.
+#[derive(Clone, Copy)]
+pub(crate) enum Fault {
+    Vertices,
+    Edges,
+    Length,
+    Start,
+    Link,
+    Tail,
+    SecondLink,
+    LastListed,
+    FirstListed,
 }
 
-// The area of the word of fault i + 1.
-fn area_of(i: usize) -> usize {
-    match i {
-        0..=3 => CASE,
-        5 => TAILS,
-        4 => LINKS,
-        6 => LINKS,
-        _ => BLANK,
+impl Fault {
+    pub(crate) const ALL: [Fault; 9] = [
+        Fault::Vertices,
+        Fault::Edges,
+        Fault::Length,
+        Fault::Start,
+        Fault::Link,
+        Fault::Tail,
+        Fault::SecondLink,
+        Fault::LastListed,
+        Fault::FirstListed,
+    ];
+
+    // Puts the fault into the case, in one of five ways.
+    pub(crate) fn put_into(self, case: &mut Case, way: u16) {
+        let odd = way % 2 == 1;
+        let side = usize::from(way % 2);
+        match self {
+            Fault::Vertices => case.vertices = if odd { 1001 } else { 0 },
+            Fault::Edges => case.edges = if odd { 65535 } else { 4001 },
+            Fault::Length => case.shorten(Area::nth(way), 4),
+            Fault::Start => case.start = if odd { 4 } else { 0 },
+            Fault::Link => put(&mut case.links, side, if odd { 8 } else { 2 }),
+            Fault::Tail => put(
+                &mut case.tails,
+                usize::from(way % 4),
+                if odd { 4 } else { 0 },
+            ),
+            Fault::SecondLink => put(&mut case.links, side * 4 + 2, if odd { 7 } else { 4 }),
+            Fault::LastListed => put(&mut case.listed, 1, if odd { 4 } else { 1 }),
+            Fault::FirstListed => put(&mut case.listed, 0, 1),
+        }
     }
 }
 
-// Its place, in one of five ways: a size, a length, the start, a link, a tail, a link that puts an edge on a second list or on a ring, and
-// the last and the first word of the list.
-fn place_of_fault(i: usize, way: usize) -> usize {
-    match i {
-        0 => N,
-        1 => M,
-        2 => LENGTHS + way % 5,
-        3 => START,
-        4 => way % 2,
-        5 => way % 4,
-        6 => way % 2 * 4 + 2,
-        7 => 1,
-        _ => 0,
-    }
+// Damages one of the first `top` words of an area: puts null there, a word out of range, or another one, or leaves it.
+fn damage(area: &mut [u16], seed: u32, top: u16, out: u16, other: u16) {
+    let w = match draw(seed, DAMAGE, 8) {
+        0 => 0,
+        1 => out,
+        2 | 3 => other,
+        _ => return,
+    };
+    put(area, usize::from(draw(seed, DAMAGED, top)), w);
 }
 
-// The word itself; `short` is a length that is too short.
-fn word_of_fault(i: usize, odd: bool, short: u16) -> u16 {
-    match i {
-        0 => if odd { 1001 } else { 0 },
-        1 => if odd { 65535 } else { 4001 },
-        2 => short,
-        3 => if odd { 4 } else { 0 },
-        4 => if odd { 8 } else { 2 },
-        5 => if odd { 4 } else { 0 },
-        6 => if odd { 7 } else { 4 },
-        7 => if odd { 4 } else { 1 },
-        _ => 1,
+// Damages a link and a tail. In place of a link comes a first edge, or for an array form null, which is never a first position.
+pub(crate) fn damage_links(case: &mut Case, seed: Seed) {
+    let n = case.vertices;
+    let m = case.edges;
+    let nodes = n.saturating_add(m);
+    let out = nodes.saturating_add(1);
+    let code = seed.code();
+    if case.walker == Walker::DfsArray {
+        damage(&mut case.links, code, n.saturating_add(1), out, 0);
+    } else {
+        let first = usize::from(seed.draw(FIRST_EDGE, n));
+        let other = case.links.get(first).copied().unwrap_or(0);
+        damage(&mut case.links, code, nodes, out, other);
     }
+    damage(&mut case.tails, code + 20000, m, n.saturating_add(1), 0);
 }
 
-// Puts fault i + 1 where its bit is set in the seed; the bits above the ninth say the way. The last two are 17 and 18.
-pub(crate) fn fault(d: &mut Desk, i: usize) {
-    let bits = said(d, SEED);
-    let way = (bits / 512) as usize;
-    if bits >> (i % 9) & 1 == 1 {
-        let k = said(d, LENGTHS + way % 5);
-        put_at(
-            d,
-            area_of(i),
-            place_of_fault(i, way),
-            word_of_fault(i, way % 2 == 1, less(k, 4)),
-        );
+// Lessens the start, the length of an area, which then is as long as stated, too short, or still longer, or the length of the list.
+pub(crate) fn lessen(case: &mut Case, seed: Seed) {
+    let by = seed.draw(LESS, 5);
+    match seed.draw(LESSENED, 7) {
+        0 => case.start = case.start.saturating_sub(by),
+        6 => case
+            .listed
+            .truncate(case.listed.len().saturating_sub(usize::from(by))),
+        k => case.shorten(Area::nth(k - 1), usize::from(by)),
     }
 }

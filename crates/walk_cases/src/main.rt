@@ -6,71 +6,96 @@
 mod areas;
 mod blanks;
 mod calls;
+mod case;
 mod cases;
 mod chance;
 mod compare;
 mod faults;
 mod judge;
+mod notes;
 mod profiles;
 mod rows;
 mod second;
 mod tally;
-mod turns;
+mod walker;
 
-use crate::areas::Desk;
-use crate::tally::{Outcome, count, print_counts};
+use crate::cases::{damaged_case, list_case, long_case, refused_case, small_case};
+use crate::rows::row_outcomes;
+use crate::tally::{Outcome, print_counts};
+use crate::walker::Walker;
+use std::alloc::{AllocError, Global};
 use std::io;
 
-fn case(d: &mut Desk, walker: u16, group: u16, i: u16) -> Outcome {
-    match group {
-        0 => cases::small_case(d, walker, i),
-        1 => cases::long_case(d, walker, i),
-        2 => cases::refused_case(d, walker, i),
-        3 => cases::damaged_case(d, walker, i),
-        4 => cases::list_case(d, walker, i),
-        _ => rows::row_case(d, walker, i),
-    }
-}
-
-fn run(d: &mut Desk, walker: u16, group: u16, top: u16) {
-    let mut i: u16 = 0;
-    while i < top {
-        let o = case(d, walker, group, i);
-        count(d, o);
-        i += 1;
-    }
-}
-
-// Runs the first `top` cases of a group and prints what they gave.
-fn print(
+// Runs the first `top` cases of a group, and prints what they gave.
+fn print<F: FnMut(u16) -> Result<Outcome, AllocError>>(
     rt: &impl Print,
-    name: &[u8],
-    of: &[u8],
-    walker: u16,
-    group: u16,
+    alloc: Global,
+    walker: Walker,
+    name: &str,
     top: u16,
-) -> io::Result<()> {
-    let mut d = [0u16; 102000];
-    run(&mut d, walker, group, top);
-    print_counts(rt, name, of, &d)
+    mut case: F,
+) -> io::Result<()>
+    requires { F.IsAlwaysCallable case }
+{
+    let mut outcomes = Vec::new(alloc);
+    for i in 0..top {
+        outcomes.push(case(i)?)?;
+    }
+    print_counts(rt, walker, name, &outcomes)
 }
 
-fn print_walker(rt: &impl Print, name: &[u8], walker: u16) -> io::Result<()> {
-    print(rt, name, b": small profiles", walker, 0, 1000)?;
-    print(rt, name, b": long profiles", walker, 1, 64)?;
-    print(rt, name, b": every set of faults", walker, 2, 2560)?;
-    print(rt, name, b": damaged links", walker, 3, 1000)?;
-    print(rt, name, b": lists of words by chance", walker, 4, 1000)?;
-    print(rt, name, b": written down", walker, 5, 28)
+// Prints the groups of a walker.
+fn print_walker(rt: &impl Print, alloc: Global, walker: Walker) -> io::Result<()> {
+    print(
+        rt,
+        alloc,
+        walker,
+        "small profiles",
+        1000,
+        |i| small_case(alloc, walker, i),
+    )?;
+    print(
+        rt,
+        alloc,
+        walker,
+        "long profiles",
+        64,
+        |i| long_case(alloc, walker, i),
+    )?;
+    print(
+        rt,
+        alloc,
+        walker,
+        "every set of faults",
+        2560,
+        |i| refused_case(alloc, walker, i),
+    )?;
+    print(
+        rt,
+        alloc,
+        walker,
+        "damaged links",
+        1000,
+        |i| damaged_case(alloc, walker, i),
+    )?;
+    print(
+        rt,
+        alloc,
+        walker,
+        "lists of words by chance",
+        1000,
+        |i| list_case(alloc, walker, i),
+    )?;
+    let rows = row_outcomes(alloc, walker)?;
+    print_counts(rt, walker, "written down", &rows)
 }
 
 fn main(rt: HostRuntime) -> io::Result<()> {
-    rt.write_all(b"group,cases,differing,0,1,2,3,4,5,6,7,17,18")?;
-    rt.write_all(b",given,one,few,others,neighbours,last,half,reference,twice,loop")?;
-    rt.write_all(b",null,past,equal,falling,start,longer\n")?;
-    print_walker(&rt, b"dfs_recursive", 0)?;
-    print_walker(&rt, b"dfs_parent", 1)?;
-    print_walker(&rt, b"dfs_array", 2)?;
-    print_walker(&rt, b"bfs_queue", 3)?;
-    print_walker(&rt, b"bfs_folded", 4)
+    print!(rt; "group,cases,differing,0,1,2,3,4,5,6,7,17,18")?;
+    print!(rt; ",given,one,few,others,neighbours,last,half,reference,twice,loop")?;
+    println!(rt; ",null,past,equal,falling,start,longer")?;
+    for walker in Walker::ALL {
+        print_walker(&rt, rt.alloc(), walker)?;
+    }
+    Ok(())
 }

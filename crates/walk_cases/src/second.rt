@@ -1,216 +1,252 @@
 // The second implementation of the walks: over lists of edges sorted by the vertex that they leave. Depth-first by a stack of vertices
 // with a place in the list of each; breadth-first by looking for the least label that is not yet scanned. The elements already on the
 // blank are labelled beforehand: each vertex is looked for on the list.
-use crate::areas::{
-    BLANK, CASE, DEPTH, Desk, ENDS, ENTRIES, EVENTS, FROMS, LABELS, LISTED, MARKS, N, OWN, PLACES,
-    SORTED, STACK, TOS, WALKER, WORDS, get_at, get_of, put_at, put_of, raise, said, say, word,
-};
-use crate::blanks::vertex_at;
-use crate::calls::{ARRAY, PARENT, QUEUE};
-use crate::tally::{LOOP, REFERENCE, TWICE, note};
+use crate::areas::{cleared, padded, put_of, word, word_of};
+use crate::case::{Case, Lengths};
+use crate::profiles::{Edge, Profile};
+use crate::walker::Walker;
+use std::alloc::{AllocError, Global};
 
 // The mark of a listed vertex.
-const ON_BLANK: u16 = 65535;
+pub(crate) const ON_BLANK: u16 = 65535;
 
-// The first of the first `top` places of an area that holds the word w, or `top`.
-fn place_of(d: &Desk, area: usize, top: usize, w: u16) -> usize {
-    let mut i: usize = 0;
-    while i < top {
-        if get_at(d, area, i) == w {
-            return i;
+// Kinds of events, by the numbers of document 01.
+#[derive(Clone, Copy)]
+pub(crate) enum Kind {
+    Label = 1,
+    AdvanceTree = 2,
+    AdvanceNontree = 3,
+    RetreatNontree = 4,
+    RetreatTree = 5,
+    Scan = 6,
+    Traverse = 7,
+}
+
+// An event: a kind, an edge or 0, and a vertex.
+#[derive(Clone, Copy)]
+pub(crate) struct Event {
+    pub(crate) kind: Kind,
+    pub(crate) edge: u16,
+    pub(crate) vertex: u16,
+}
+
+impl Event {
+    // The event as a walk writes it.
+    pub(crate) fn words(self) -> [u16; 3] {
+        [self.kind as u16, self.edge, self.vertex]
+    }
+}
+
+// What a walk leaves: marks, its own area, and the events that it writes, and nothing behind them.
+#[derive(Drop)]
+pub(crate) struct Left {
+    pub(crate) marks: Vec<u16>,
+    pub(crate) own: Vec<u16>,
+    pub(crate) events: Vec<Event>,
+}
+
+impl Left {
+    // The events by kind.
+    pub(crate) fn tally(&self) -> [u32; 7] {
+        let mut tally = [0u32; 7];
+        for event in &self.events {
+            if let Some(count) = tally.get_mut(event.kind as usize - 1) {
+                *count = count.saturating_add(1);
+            }
         }
-        i += 1;
+        tally
     }
-    top
-}
 
-// Whether x is on the list.
-pub(crate) fn is_listed(d: &Desk, x: u16) -> bool {
-    let top = said(d, LISTED) as usize;
-    place_of(d, BLANK, top, x) < top
-}
-
-// Labels vertex i + 1 beforehand, where it is on the list.
-pub(crate) fn label_listed(d: &mut Desk, i: usize) {
-    if is_listed(d, vertex_at(i)) {
-        put_at(d, MARKS, i, ON_BLANK);
+    // The area of events, of this length.
+    pub(crate) fn event_words(&self, alloc: Global, length: usize) -> Result<Vec<u16>, AllocError> {
+        let mut words = Vec::new(alloc);
+        for event in &self.events {
+            words.extend_from_slice(&event.words())?;
+        }
+        padded(words, length)
     }
 }
 
-// Notes edge i where it is a loop on a listed vertex.
-pub(crate) fn note_loop(d: &mut Desk, i: usize) {
-    let u = get_at(d, FROMS, i);
-    if get_at(d, TOS, i) != u {
-        return;
+// A vertex that is being scanned depth-first: the edge into it, its list, and the place there.
+#[derive(Clone, Copy)]
+struct Scan<'a> {
+    vertex: u16,
+    entry: u16,
+    list: &'a [Edge],
+    at: usize,
+}
+
+// A search under way: how many vertices it has labelled, and what it has left so far.
+#[derive(Drop)]
+struct Search<'a> {
+    walker: Walker,
+    profile: &'a Profile,
+    labels: u16,
+    left: Left,
+}
+
+impl<'a> Search<'a> {
+    // Writes an event.
+    fn emit(&mut self, kind: Kind, edge: u16, vertex: u16) -> Result<(), AllocError> {
+        self.left.events.push(Event { kind, edge, vertex })?;
+        Ok(())
     }
-    if get_of(d, MARKS, u) == ON_BLANK {
-        note(d, LOOP);
+
+    // Labels x with the next number, and gives that.
+    fn label(&mut self, x: u16) -> Result<u16, AllocError> {
+        self.labels = self.labels.saturating_add(1);
+        put_of(&mut self.left.marks, x, self.labels);
+        self.emit(Kind::Label, 0, x)?;
+        Ok(self.labels)
+    }
+
+    // The name of an edge in events: its position in an array form, else its own number.
+    fn name(&self, edge: Edge) -> u16 {
+        if self.walker == Walker::DfsArray {
+            edge.position
+        } else {
+            edge.node
+        }
+    }
+
+    // Whether the edge leads to a vertex that is not yet labelled.
+    fn is_tree(&self, edge: Edge) -> bool {
+        word_of(&self.left.marks, edge.to) == 0
+    }
+
+    // Labels x and begins its scan, where `entry` is the edge into it and `above` that into its parent.
+    fn enter(&mut self, x: u16, entry: u16, above: u16) -> Result<Scan<'a>, AllocError> {
+        self.label(x)?;
+        match self.walker {
+            Walker::DfsParent => put_of(&mut self.left.own, x, above),
+            Walker::DfsArray => put_of(&mut self.left.own, x, 1),
+            _ => {}
+        }
+        Ok(Scan {
+            vertex: x,
+            entry,
+            list: self.profile.list(x),
+            at: 0,
+        })
+    }
+
+    // Goes on with a scan: along the next edge of its list, or back where there is none left.
+    fn step(&mut self, stack: &mut Vec<Scan<'a>>, scan: Scan<'a>) -> Result<(), AllocError> {
+        let Scan {
+            vertex,
+            entry,
+            list,
+            at,
+        } = scan;
+        let Some(edge) = list.get(at).copied() else {
+            self.emit(Kind::Scan, 0, vertex)?;
+            if let Some(below) = stack.last() {
+                self.emit(Kind::RetreatTree, entry, below.vertex)?;
+            }
+            return Ok(());
+        };
+        stack.push(Scan {
+            vertex,
+            entry,
+            list,
+            at: at + 1,
+        })?;
+        let name = self.name(edge);
+        if self.is_tree(edge) {
+            self.emit(Kind::AdvanceTree, name, vertex)?;
+            if self.walker == Walker::DfsArray {
+                put_of(&mut self.left.own, vertex, word(at + 1));
+            }
+            let next = self.enter(edge.to, name, entry)?;
+            stack.push(next)?;
+        } else {
+            self.emit(Kind::AdvanceNontree, name, vertex)?;
+            self.emit(Kind::RetreatNontree, name, vertex)?;
+        }
+        Ok(())
+    }
+
+    // Searches depth-first, in a step for each vertex and edge at most.
+    fn depth_first(&mut self, alloc: Global, start: u16, steps: usize) -> Result<(), AllocError> {
+        let mut stack = Vec::new(alloc);
+        let first = self.enter(start, 0, 0)?;
+        stack.push(first)?;
+        for _ in 0..steps {
+            let Some(scan) = stack.pop() else {
+                break;
+            };
+            self.step(&mut stack, scan)?;
+        }
+        Ok(())
+    }
+
+    // Labels x breadth-first.
+    fn enqueue(&mut self, x: u16) -> Result<(), AllocError> {
+        let label = self.label(x)?;
+        if self.walker == Walker::BfsQueue {
+            put_of(&mut self.left.own, label, x);
+        }
+        Ok(())
+    }
+
+    // Searches breadth-first: scans the vertex of each label.
+    fn breadth_first(&mut self, start: u16) -> Result<(), AllocError> {
+        self.enqueue(start)?;
+        for label in 1..=self.profile.vertices {
+            let marks = self.left.marks.as_slice();
+            let Some(vertex) = (1..=self.profile.vertices).find(|x| word_of(marks, *x) == label)
+            else {
+                break;
+            };
+            for edge in self.profile.list(vertex) {
+                let name = self.name(*edge);
+                self.emit(Kind::Traverse, name, vertex)?;
+                if self.is_tree(*edge) {
+                    self.enqueue(edge.to)?;
+                }
+            }
+            self.emit(Kind::Scan, 0, vertex)?;
+        }
+        Ok(())
     }
 }
 
-fn emit(d: &mut Desk, kind: u16, edge: u16, u: u16) {
-    let at = said(d, WORDS) as usize;
-    put_at(d, EVENTS, at, kind);
-    put_at(d, EVENTS, at + 1, edge);
-    put_at(d, EVENTS, at + 2, u);
-    raise(d, CASE, WORDS, 3);
-    raise(d, CASE, kind as usize, 1);
+// What a walk that is refused leaves: every area as it was.
+pub(crate) fn left_if_refused(alloc: Global, case: &Case) -> Result<Left, AllocError> {
+    Ok(Left {
+        marks: cleared(alloc, 0, case.marks)?,
+        own: cleared(alloc, 0, case.own)?,
+        events: Vec::new(alloc),
+    })
 }
 
-// The node whose word of the walk's own area is written where x gets label k; 0 for none.
-fn own_node(walker: u16, k: u16, x: u16) -> u16 {
-    match walker {
-        PARENT => x,
-        ARRAY => x,
-        QUEUE => k,
-        _ => 0,
+// What a walk of the case by this walker is to leave, where it is taken.
+pub(crate) fn left_if_taken(
+    alloc: Global,
+    case: &Case,
+    walker: Walker,
+) -> Result<Left, AllocError> {
+    let least = Lengths::of(walker, case.vertices, case.edges, 0);
+    let mut marks = cleared(alloc, least.marks, case.marks)?;
+    for x in 1..=case.vertices {
+        if case.listed.contains(&x) {
+            put_of(&mut marks, x, ON_BLANK);
+        }
     }
-}
-
-// That word, where `entry` is the tree edge into the parent of x.
-fn own_word(walker: u16, x: u16, entry: u16) -> u16 {
-    match walker {
-        PARENT => entry,
-        ARRAY => 1,
-        _ => x,
+    let mut search = Search {
+        walker,
+        profile: &case.profile,
+        labels: 0,
+        left: Left {
+            marks,
+            own: cleared(alloc, least.own, case.own)?,
+            events: Vec::new(alloc),
+        },
+    };
+    if walker.is_breadth_first() {
+        search.breadth_first(case.start)?;
+    } else {
+        search.depth_first(alloc, case.start, least.marks)?;
     }
-}
-
-fn label(d: &mut Desk, walker: u16, x: u16, entry: u16) {
-    raise(d, CASE, LABELS, 1);
-    let k = said(d, LABELS);
-    put_of(d, MARKS, x, k);
-    put_of(d, OWN, own_node(walker, k, x), own_word(walker, x, entry));
-    emit(d, 1, 0, x);
-}
-
-// Begins the scan of x, in place k of the stack.
-pub(crate) fn scan(d: &mut Desk, k: u16, x: u16) {
-    put_at(d, STACK, k as usize, x);
-    let p = get_of(d, ENDS, x);
-    put_at(d, PLACES, k as usize, p);
-}
-
-// Labels x, to which the edge e leads, and begins its scan.
-pub(crate) fn push(d: &mut Desk, walker: u16, x: u16, e: u16) {
-    let k = said(d, DEPTH);
-    let entry = get_at(d, ENTRIES, k as usize);
-    label(d, walker, x, entry);
-    scan(d, word(k as u64 + 1), x);
-    put_at(d, ENTRIES, k as usize + 1, e);
-    say(d, DEPTH, word(k as u64 + 1));
-}
-
-// The node of an array form's walk whose increment is written at a tree edge that leaves u; 0 for none.
-fn increment_node(walker: u16, u: u16) -> u16 {
-    if walker == ARRAY { u } else { 0 }
-}
-
-fn depth_tree(d: &mut Desk, walker: u16, u: u16, p: u16, x: u16, e: u16) {
-    emit(d, 2, e, u);
-    let first = get_of(d, ENDS, u);
-    put_of(
-        d,
-        OWN,
-        increment_node(walker, u),
-        word(p as u64 + 65537 - first as u64),
-    );
-    push(d, walker, x, e);
-}
-
-fn depth_nontree(d: &mut Desk, u: u16, e: u16) {
-    emit(d, 3, e, u);
-    emit(d, 4, e, u);
-    let k = said(d, DEPTH);
-    raise(d, PLACES, k as usize, 1);
-}
-
-fn breadth_edge(d: &mut Desk, walker: u16, u: u16, x: u16, e: u16, mark: u16) {
-    emit(d, 7, e, u);
-    raise(d, PLACES, 0, 1);
-    if mark == 0 {
-        label(d, walker, x, 0);
-    }
-}
-
-// The name in events of the edge e at place p of the sorted lists: its position in an array form, else its own number.
-fn edge_name(walker: u16, n: u16, p: u16, e: u16) -> u16 {
-    let k = if walker == ARRAY { p } else { e };
-    word(n as u64 + k as u64 + 1)
-}
-
-// Notes the edge at place p, which leaves u, as one that leads to the listed vertex x.
-fn note_listed(d: &mut Desk, u: u16, p: u16, x: u16) {
-    note(d, REFERENCE);
-    if p == get_of(d, ENDS, u) {
-        return;
-    }
-    let e = get_of(d, SORTED, p);
-    if get_at(d, TOS, e as usize) == x {
-        note(d, TWICE);
-    }
-}
-
-// Traverses the edge at place p, which leaves u.
-fn edge(d: &mut Desk, walker: u16, u: u16, p: u16) {
-    let k = get_at(d, SORTED, p as usize);
-    let x = get_at(d, TOS, k as usize);
-    let e = edge_name(walker, said(d, N), p, k);
-    let mark = get_of(d, MARKS, x);
-    if mark == ON_BLANK {
-        note_listed(d, u, p, x);
-    }
-    if QUEUE <= walker {
-        return breadth_edge(d, walker, u, x, e, mark);
-    }
-    if mark == 0 {
-        return depth_tree(d, walker, u, p, x, e);
-    }
-    depth_nontree(d, u, e);
-}
-
-// Ends the scan of u, and goes back along the edge into it.
-fn depth_end(d: &mut Desk, u: u16, k: u16) {
-    emit(d, 6, 0, u);
-    let below = word(k as u64 + 65535);
-    say(d, DEPTH, below);
-    if below == 0 {
-        return;
-    }
-    let e = get_at(d, ENTRIES, k as usize);
-    let v = get_at(d, STACK, below as usize);
-    emit(d, 5, e, v);
-    raise(d, PLACES, below as usize, 1);
-}
-
-// Ends the scan of u, whose label is k, and begins that of the next label.
-fn breadth_end(d: &mut Desk, u: u16, k: u16) {
-    emit(d, 6, 0, u);
-    let next = word(k as u64 + 1);
-    if said(d, LABELS) < next {
-        return say(d, DEPTH, 0);
-    }
-    say(d, DEPTH, next);
-    let x = place_of(d, MARKS, said(d, N) as usize, next) as u64;
-    scan(d, 0, word(x % 65536 + 1));
-}
-
-// One step of the second search, as long as there is one. In place 0 of the stack is the vertex that is scanned breadth-first, and the
-// depth is its label.
-pub(crate) fn step(d: &mut Desk) {
-    let k = said(d, DEPTH);
-    if k == 0 {
-        return;
-    }
-    let walker = said(d, WALKER);
-    let at = if walker < QUEUE { k as usize } else { 0 };
-    let u = get_at(d, STACK, at);
-    let p = get_at(d, PLACES, at);
-    if p < get_at(d, ENDS, u as usize) {
-        return edge(d, walker, u, p);
-    }
-    if walker < QUEUE {
-        return depth_end(d, u, k);
-    }
-    breadth_end(d, u, k);
+    Ok(search.left)
 }

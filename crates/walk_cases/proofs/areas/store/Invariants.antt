@@ -1,9 +1,0 @@
--- `store` is safe and ends: the places left fall with each turn.
-use Prim.Native.Nat.{◌≤◌, ◌-◌}
-use Rattle.walk_cases.proofs.areas.store.Given as goal
-
-abbrev pub invariant-loop-i : goal.invariant-loop-i
-invariant-loop-i l = l.i ≤ 5100
-
-abbrev pub decreases-loop-i : goal.decreases-loop-i
-decreases-loop-i l = 5100 - l.i
