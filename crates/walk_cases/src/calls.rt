@@ -2,11 +2,13 @@
 use crate::case::Case;
 use crate::compare::Areas;
 use crate::walker::Walker;
-use images::Vertex;
+use arrays::ArrayForm;
+use images::{Image, Vertex};
+use refusals::Refusal;
 
-// The answer of a call whose number of a refusal is 0 where there is none.
-fn answered(number: u16) -> Result<(), u16> {
-    if number == 0 { Ok(()) } else { Err(number) }
+// The answer of a call, with the number of its refusal.
+fn numbered<T>(answer: Result<T, Refusal>) -> Result<T, u16> {
+    answer.map_err(|refusal| refusal.number())
 }
 
 // Calls the walker of the case with these areas: its events by kind, or the number of its refusal.
@@ -14,7 +16,7 @@ pub(crate) fn call(case: &Case, areas: &mut Areas) -> Result<[u32; 7], u16> {
     let n = case.vertices;
     let m = case.edges;
     let start = Vertex(case.start);
-    let listed = case.listed.as_slice();
+    let before = case.listed.as_slice();
     let Areas {
         links,
         tails,
@@ -22,40 +24,43 @@ pub(crate) fn call(case: &Case, areas: &mut Areas) -> Result<[u32; 7], u16> {
         own,
         events,
     } = areas;
-    let walked = match case.walker {
+    numbered(match case.walker {
         Walker::DfsRecursive => walkers::dfs_recursive(
-            n, m, start, links, tails, listed, marks, events,
+            &image(n, m, links, tails), before, start, marks, events,
         ),
         Walker::DfsParent => walkers::dfs_parent(
-            n, m, start, links, tails, listed, marks, own, events,
+            &image(n, m, links, tails), before, start, marks, own, events,
         ),
         Walker::DfsArray => walkers::dfs_array(
-            n, m, start, links, tails, listed, marks, own, events,
+            n, m, links, tails, before, start, marks, own, events,
         ),
         Walker::BfsQueue => walkers::bfs_queue(
-            n, m, start, links, tails, listed, marks, own, events,
+            &image(n, m, links, tails), before, start, marks, own, events,
         ),
-        Walker::BfsFolded => walkers::bfs_folded(n, m, start, links, tails, listed, marks, events),
-    };
-    answered(walked.number)?;
-    Ok(walked.tally)
+        Walker::BfsFolded => walkers::bfs_folded(n, m, links, tails, before, start, marks, events),
+    })
+}
+
+fn image<'a>(n: u16, m: u16, after: &'a [u16], tail: &'a [u16]) -> Image<'a> {
+    Image { n, m, after, tail }
 }
 
 // What the words of the links show of the case.
 pub(crate) fn check_links(case: &Case) -> Result<(), u16> {
     let n = case.vertices;
     let m = case.edges;
-    let number = match case.walker {
-        Walker::DfsArray => arrays::edges_out_number(
-            n,
-            m,
-            &case.links,
-            &case.tails,
-            Vertex(case.start),
-        ),
-        _ => images::check_image(n, m, &case.links, &case.tails),
-    };
-    answered(number)
+    numbered(match case.walker {
+        Walker::DfsArray => {
+            let form = ArrayForm {
+                n,
+                m,
+                firsts: &case.links,
+                tails: &case.tails,
+            };
+            arrays::check_query(&form, Vertex(case.start))
+        }
+        _ => images::check_image(&image(n, m, &case.links, &case.tails)),
+    })
 }
 
 // Converts the linked image of the case to the array form.
@@ -65,13 +70,6 @@ pub(crate) fn to_array(
     tails: &mut [u16],
     numbers: &mut [u16],
 ) -> Result<(), u16> {
-    answered(arrays::to_array(
-        case.vertices,
-        case.edges,
-        &case.links,
-        &case.tails,
-        firsts,
-        tails,
-        numbers,
-    ))
+    let g = image(case.vertices, case.edges, &case.links, &case.tails);
+    numbered(arrays::to_array(&g, firsts, tails, numbers))
 }
