@@ -26,7 +26,7 @@ impl Area {
 }
 
 // How many words a call is lent of each area.
-#[derive(Clone, Copy)]
+#[derive(Clone, Copy, Default)]
 pub(crate) struct Lengths {
     pub after: usize,
     pub tail: usize,
@@ -66,10 +66,7 @@ impl Links {
 
 // The place of node x in an area.
 pub(crate) fn place_of(x: u16) -> Option<usize> {
-    match x.checked_sub(1) {
-        Some(place) => Some(usize::from(place)),
-        None => None,
-    }
+    Some(usize::from(x.checked_sub(1)?))
 }
 
 // The word of node x in an area.
@@ -82,9 +79,9 @@ pub(crate) fn word_of(area: &[u16], x: u16) -> u16 {
 
 // Writes the word of node x in an area.
 pub(crate) fn put_of(area: &mut [u16], x: u16, w: u16) {
-    if let Some(place) = place_of(x) {
-        if let Some(word) = area.get_mut(place) {
-            *word = w;
-        }
+    if let Some(place) = place_of(x)
+        && let Some(word) = area.get_mut(place)
+    {
+        *word = w;
     }
 }

@@ -34,11 +34,8 @@ fn small_profile(chance: Chance) -> Profile {
 // blank cut all of them.
 fn note_circle(case: &mut Case, profile: &Profile) {
     let is_circular = has_circle(profile, &case.second.blank);
-    let found = match &case.found {
-        Some(found) => found.is_circular,
-        None => false,
-    };
-    case.note(is_circular != found);
+    let is_found = case.found.as_ref().is_some_and(|found| found.is_circular);
+    case.note(is_circular != is_found);
     if is_circular != has_circle(profile, &[]) {
         case.tally.count_cut();
     }
@@ -107,10 +104,7 @@ fn is_ended(case: &Case) -> bool {
 // many steps as there are events.
 fn is_withdrawn(case: &Case, budget: u32) -> bool {
     let steps = case.second.total.saturating_sub(budget);
-    let events = match &case.found {
-        Some(found) => found.events.len(),
-        None => 0,
-    };
+    let events = case.found.as_ref().map_or(0, |found| found.events.len());
     case.second.marks.starts_with(&case.second.blank) && steps as usize <= events / 2
 }
 

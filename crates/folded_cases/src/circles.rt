@@ -18,10 +18,10 @@ impl Paths {
 
     // Takes an edge from u to x for a path.
     fn put(&mut self, u: u16, x: u16) {
-        if let Some(row) = self.0.get_mut(usize::from(u)) {
-            if let Some(path) = row.get_mut(usize::from(x)) {
-                *path = true;
-            }
+        if let Some(row) = self.0.get_mut(usize::from(u))
+            && let Some(path) = row.get_mut(usize::from(x))
+        {
+            *path = true;
         }
     }
 

@@ -53,7 +53,7 @@ impl Case {
             script: Vec::new(alloc),
             answer: Ok(Outcome::Taken),
             differs: false,
-            tally: Tally::new(),
+            tally: Tally::default(),
         })
     }
 

@@ -52,10 +52,10 @@ impl Search<'_> {
 
     // Gives vertex x a colour.
     fn paint(&mut self, x: u16, colour: Colour) {
-        if let Some(place) = place_of(x) {
-            if let Some(c) = self.colours.get_mut(place) {
-                *c = colour;
-            }
+        if let Some(place) = place_of(x)
+            && let Some(c) = self.colours.get_mut(place)
+        {
+            *c = colour;
         }
     }
 

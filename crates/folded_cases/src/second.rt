@@ -57,7 +57,7 @@ impl From<AllocError> for Fault {
 }
 
 // How often an edge was met to a vertex marked 65,535; the end of a roll-back left such a mark; a scan took one.
-#[derive(Clone, Copy)]
+#[derive(Clone, Copy, Default)]
 pub(crate) struct Met {
     pub touched: u32,
     pub spared: u32,
@@ -93,12 +93,7 @@ impl Second {
             alloc,
             links: Links::new(alloc, words)?,
             marks: vec![in alloc; 0; words]?,
-            lengths: Lengths {
-                after: 0,
-                tail: 0,
-                marks: 0,
-                events: 0,
-            },
+            lengths: Lengths::default(),
             room: words * 10,
             before: Vec::new(alloc),
             blank: Vec::new(alloc),
@@ -107,11 +102,7 @@ impl Second {
             steps: 0,
             total: 0,
             stored: Vec::new(alloc),
-            met: Met {
-                touched: 0,
-                spared: 0,
-                scanned: 0,
-            },
+            met: Met::default(),
         })
     }
 

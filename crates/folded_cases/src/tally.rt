@@ -5,7 +5,7 @@ use std::io;
 
 // How many cases there are, how many differ, how many calls gave each answer (those refused by the number), how many profiles have each
 // kind of list, and how often a list cut every circle.
-#[derive(Clone, Copy)]
+#[derive(Clone, Copy, Default)]
 pub(crate) struct Tally {
     cases: u32,
     differing: u32,
@@ -44,26 +44,6 @@ pub(crate) fn print_head(rt: &impl Print) -> io::Result<()> {
 }
 
 impl Tally {
-    // All counts are 0.
-    pub(crate) fn new() -> Tally {
-        Tally {
-            cases: 0,
-            differing: 0,
-            taken: 0,
-            refused: [0; 19],
-            ended: 0,
-            spent: 0,
-            stuck: 0,
-            empty: 0,
-            one: 0,
-            several: 0,
-            all: 0,
-            near: 0,
-            last: 0,
-            cut: 0,
-        }
-    }
-
     // Counts a case.
     pub(crate) fn count_case(&mut self, differs: bool) {
         count(&mut self.cases);
