@@ -1,18 +1,31 @@
 // Numbers by chance, the same in every run: linear congruential steps in 32 bits, the higher half folded into the lower between them.
-use crate::areas::word;
+ghost use Rattle.std.specs.Prelude.{◌<◌};
 
-fn folded(x: u64) -> u64 {
-    let y = x % 4294967296;
-    y ^ (y >> 16)
+// The draws of a seed.
+#[derive(Clone, Copy)]
+pub(crate) struct Chance {
+    pub seed: u16,
 }
 
-// The draw of a seed at a place, both below 65,536: a number below k, and 0 where k is 0.
-pub(crate) fn draw(seed: u64, place: u64, k: u16) -> u16 {
-    if k == 0 {
-        return 0;
+// The word with its higher half folded into its lower.
+fn folded(x: u32) -> u32 {
+    x ^ (x >> 16)
+}
+
+impl Chance {
+    // The draw at a place: a number below the bound, and 0 where that is 0.
+    pub(crate) fn below(self, place: u16, bound: u16) -> u16
+        ensures { result < 32768 }
+    {
+        let x = folded(u32::from(self.seed) << 16 | u32::from(place));
+        let y = folded(x.wrapping_mul(2146121005));
+        let z = folded(y.wrapping_mul(2221713035));
+        let drawn = (z & 0x7fff) as u16;
+        if bound == 0 { 0 } else { drawn % bound }
     }
-    let x = folded(seed % 65536 * 65536 + place % 65536);
-    let y = folded(x % 4294967296 * 2146121005);
-    let z = folded(y % 4294967296 * 2221713035);
-    word(z) % 32768 % k
+
+    // One more than the draw at a place: from 1 to the bound.
+    pub(crate) fn up_to(self, place: u16, bound: u16) -> u16 {
+        self.below(place, bound) + 1
+    }
 }
