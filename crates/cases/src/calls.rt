@@ -1,13 +1,16 @@
 // The calls that the cases are of. No other file names the crates that they are in.
 use crate::image::Sizes;
+use arrays::ArrayForm;
+use images::{Edge, Image, Vertex};
+use refusals::Refusal;
 
-// What a call that gives a number of document 01 answers.
-fn answered(number: u16) -> Result<(), u16> {
-    if number == 0 { Ok(()) } else { Err(number) }
+// An answer, with the number of its refusal.
+fn numbered<T>(answer: Result<T, Refusal>) -> Result<T, u16> {
+    answer.map_err(|refusal| refusal.number())
 }
 
 pub(crate) fn check_image(n: u16, m: u16, after: &[u16], tail: &[u16]) -> Result<(), u16> {
-    answered(images::check_image(n, m, after, tail))
+    numbered(images::check_image(&Image { n, m, after, tail }))
 }
 
 pub(crate) fn tail_out(n: u16, m: u16, tail: &[u16]) -> bool {
@@ -23,37 +26,38 @@ pub(crate) fn to_array(
     tails: &mut [u16],
     numbers: &mut [u16],
 ) -> Result<(), u16> {
-    answered(arrays::to_array(n, m, after, tail, firsts, tails, numbers))
+    let g = Image { n, m, after, tail };
+    numbered(arrays::to_array(&g, firsts, tails, numbers))
 }
 
-pub(crate) fn edges_out_number(
+pub(crate) fn check_query(
     n: u16,
     m: u16,
     firsts: &[u16],
     tails: &[u16],
     u: u16,
 ) -> Result<(), u16> {
-    answered(arrays::edges_out_number(n, m, firsts, tails, images::Vertex(u)))
+    let a = ArrayForm { n, m, firsts, tails };
+    numbered(arrays::check_query(&a, Vertex(u)))
 }
 
 pub(crate) fn edges_out<'a>(n: u16, m: u16, firsts: &[u16], tails: &'a [u16], u: u16) -> &'a [u16] {
-    arrays::edges_out(n, m, firsts, tails, images::Vertex(u))
+    let a = ArrayForm { n, m, firsts, tails };
+    arrays::edges_out(&a, Vertex(u))
 }
 
 pub(crate) fn is_vertex(n: u16, x: u16) -> bool {
-    images::is_vertex(n, images::Vertex(x))
+    images::is_vertex(n, Vertex(x))
 }
 
 pub(crate) fn is_link(n: u16, m: u16, x: u16) -> bool {
-    images::is_link(n, m, images::Edge(x))
+    images::is_link(n, m, Edge(x))
 }
 
 // The number at a place of a text, and the place past it.
 pub(crate) fn read_number(text: &[u8], at: usize) -> Option<(u16, usize)> {
-    match numbers::read_number(text, at) {
-        numbers::Number::Found { value, next } => Some((value, next)),
-        numbers::Number::Out => None,
-    }
+    let number = numbers::read_number(text, at)?;
+    Some((number.value, number.next))
 }
 
 pub(crate) fn write_number(x: u16, area: &mut [u8], at: usize) -> usize {
@@ -72,21 +76,17 @@ pub(crate) fn read_profile(
     after: &mut [u16],
     tail: &mut [u16],
 ) -> Result<Loaded, u16> {
-    match texts::read_profile(text, after, tail) {
-        texts::Profile::Loaded { n, m, start } => Ok(Loaded {
-            sizes: Sizes { n, m },
-            start: start.0,
-        }),
-        texts::Profile::Refused(number) => Err(number),
-    }
+    let profile = numbered(texts::read_profile(text, after, tail))?;
+    Ok(Loaded {
+        sizes: Sizes {
+            n: profile.n,
+            m: profile.m,
+        },
+        start: profile.start.0,
+    })
 }
 
-// What is told of the walk of a text or the line of a refusal: how many bytes are printed.
-fn reported(report: report::Report) -> Result<usize, u16> {
-    answered(report.number)?;
-    Ok(report.bytes)
-}
-
+// How many bytes are printed of the walk of a text, or the line of a refusal.
 pub(crate) fn walk_text(
     text: &[u8],
     after: &mut [u16],
@@ -95,9 +95,9 @@ pub(crate) fn walk_text(
     events: &mut [u16],
     output: &mut [u8],
 ) -> Result<usize, u16> {
-    reported(report::walk_text(text, after, tail, marks, events, output))
+    numbered(report::walk_text(text, after, tail, marks, events, output))
 }
 
 pub(crate) fn refusal_line(number: u16, output: &mut [u8]) -> Result<usize, u16> {
-    reported(report::refusal_line(number, output))
+    numbered(report::refusal_line(number, output))
 }

@@ -1,6 +1,6 @@
 // The array form judged and asked a second way: words are counted, and each position is asked whether it is of the vertex.
 use crate::areas::{SPAN, of_node, part, store, word};
-use crate::calls::{edges_out, edges_out_number};
+use crate::calls::{edges_out, check_query};
 use crate::chance::draw_below;
 use crate::drawn::{damage, damaged_place, draw_length, draw_sizes, other_seed, other_sizes};
 use crate::image::{Sizes, are_vertices};
@@ -135,7 +135,7 @@ impl Query {
     pub(crate) fn asked(self, alloc: Global, form: &ArrayForm) -> Result<Outcome, AllocError> {
         let firsts = part(&form.firsts, self.firsts);
         let tails = part(&form.tails, self.tails);
-        let first = edges_out_number(self.sizes.n, self.sizes.m, firsts, tails, self.u);
+        let first = check_query(self.sizes.n, self.sizes.m, firsts, tails, self.u);
         let second = self.judge(firsts, tails);
         let wanted = match second {
             Ok(()) => self.tails_out(alloc, firsts, tails)?,

@@ -2,8 +2,9 @@
 use crate::areas::Links;
 use crate::second::{Answer, Call, Outcome, Reply};
 use crate::state::State;
-use images::{Edge, Vertex};
+use images::{Edge, Image, Vertex};
 use panel::Panel;
+use refusals::Refusal;
 
 // What a call of the folded search is lent.
 #[derive(Drop)]
@@ -61,24 +62,44 @@ impl From<states::State> for State {
     }
 }
 
-// An answer of the folded search.
-fn answer_of(answer: states::Answer) -> Answer {
-    match answer {
-        states::Answer::Ran(states::Reason::Ended) => Ok(Outcome::Ended),
-        states::Answer::Ran(states::Reason::Spent) => Ok(Outcome::Spent),
-        states::Answer::Ran(states::Reason::Stuck) => Ok(Outcome::Stuck),
-        states::Answer::Taken => Ok(Outcome::Taken),
-        states::Answer::Refused(number) => Err(number),
+// What a call that is taken has done, as the second implementation says it.
+fn outcome_of(why: Option<states::Reason>) -> Outcome {
+    match why {
+        Some(states::Reason::Ended) => Outcome::Ended,
+        Some(states::Reason::Spent) => Outcome::Spent,
+        Some(states::Reason::Stuck) => Outcome::Stuck,
+        None => Outcome::Taken,
     }
 }
 
-// A reply of the folded search.
-fn reply_of(reply: states::Reply) -> Reply {
-    Reply {
-        answer: answer_of(reply.answer),
-        steps: reply.steps,
-        events: reply.events,
-        state: reply.state.into(),
+// A reply of the folded search; of a call that is refused, with the state kept.
+fn reply_of(answer: Result<states::Reply, Refusal>, kept: State) -> Reply {
+    match answer {
+        Ok(reply) => Reply {
+            answer: Ok(outcome_of(reply.why)),
+            steps: reply.steps,
+            events: reply.events,
+            state: reply.state.into(),
+        },
+        Err(refusal) => Reply {
+            answer: Err(refusal.number()),
+            steps: 0,
+            events: 0,
+            state: kept,
+        },
+    }
+}
+
+// The state of an opening that is refused: the profile and the start alone.
+fn unopened(s: State) -> State {
+    State {
+        v: 0,
+        e: 0,
+        f: 0,
+        phase: 0,
+        next: 0,
+        circular: 0,
+        ..s
     }
 }
 
@@ -91,12 +112,23 @@ pub(crate) fn make_call(call: Call, state: State, before: &[u16], lent: Lent<'_>
         events,
     } = lent;
     let s: states::State = state.into();
-    reply_of(match call {
-        Call::Open => walkers::open(s.n, s.m, s.start, after, tail, before, marks, events),
-        Call::Run(budget) => walkers::run(s, budget, after, tail, marks, events),
-        Call::Step => walkers::step(s, after, tail, marks, events),
-        Call::RollBack => walkers::roll_back(s),
-    })
+    match call {
+        Call::Open => {
+            let g = Image {
+                n: s.n,
+                m: s.m,
+                after: &*after,
+                tail: &*tail,
+            };
+            reply_of(walkers::open(&g, before, s.start, marks, events), unopened(state))
+        }
+        Call::Run(budget) => reply_of(
+            walkers::run(s, budget, after, tail, marks, events),
+            state,
+        ),
+        Call::Step => reply_of(walkers::step(s, after, tail, marks, events), state),
+        Call::RollBack => reply_of(walkers::roll_back(s), state),
+    }
 }
 
 // Replays the words of a script.
@@ -107,17 +139,26 @@ pub(crate) fn replay(state: State, before: &[u16], lent: Lent<'_>, script: &[u32
         marks,
         events,
     } = lent;
-    reply_of(walkers::replay(
+    let replayed = walkers::replay(
         state.n,
         state.m,
-        Vertex(state.start),
         after,
         tail,
         before,
+        Vertex(state.start),
         marks,
         events,
         script,
-    ))
+    );
+    match replayed {
+        Ok(r) => Reply {
+            answer: number_of(r.last).map(outcome_of),
+            steps: r.steps,
+            events: r.events,
+            state: r.state.into(),
+        },
+        Err(refusal) => reply_of(Err(refusal), unopened(state)),
+    }
 }
 
 // The recursive search of a profile.
@@ -128,48 +169,57 @@ pub(crate) fn search(
     marks: &mut [u16],
     events: &mut [u16],
 ) -> Result<(), u16> {
-    let walked = walkers::dfs_recursive(
-        state.n,
-        state.m,
-        Vertex(state.start),
-        &links.after,
-        &links.tail,
-        before,
-        marks,
-        events,
-    );
-    number_of(walked.number)
+    let g = image_of(state.n, state.m, links);
+    number_of(walkers::dfs_recursive(&g, before, Vertex(state.start), marks, events))?;
+    Ok(())
+}
+
+fn image_of<'a>(n: u16, m: u16, links: &'a Links) -> Image<'a> {
+    Image {
+        n,
+        m,
+        after: &links.after,
+        tail: &links.tail,
+    }
 }
 
 // The number that an image is refused with.
 pub(crate) fn check_image(n: u16, m: u16, links: &Links) -> Result<(), u16> {
-    number_of(images::check_image(n, m, &links.after, &links.tail))
+    number_of(images::check_image(&image_of(n, m, links)))
 }
 
-// A number of a refusal, or nothing where it is 0.
-fn number_of(number: u16) -> Result<(), u16> {
-    if number == 0 { Ok(()) } else { Err(number) }
+// An answer, with the number of its refusal.
+fn number_of<T>(answer: Result<T, Refusal>) -> Result<T, u16> {
+    answer.map_err(|refusal| refusal.number())
 }
 
-// What accepting a state answers.
-fn accepted_of(accepted: panel::Accepted) -> Accepted {
-    Accepted {
-        answer: number_of(accepted.number).map(|()| Outcome::Taken),
-        state: accepted.state.into(),
+// What accepting a state answers; one that is refused is kept.
+fn accepted_of(answer: Result<states::State, Refusal>, kept: State) -> Accepted {
+    match answer {
+        Ok(state) => Accepted {
+            answer: Ok(Outcome::Taken),
+            state: state.into(),
+        },
+        Err(refusal) => Accepted {
+            answer: Err(refusal.number()),
+            state: kept,
+        },
     }
 }
 
 // Accepts a state as a card, on a record with a figure: what is answered, and the figure after.
 pub(crate) fn count_card(figure: u32, state: State) -> (Accepted, u32) {
-    let counted = panel::count_card(Panel { figure }, state.into());
-    (accepted_of(counted.answer), counted.panel.figure)
+    match panel::count_card(Panel { figure }, state.into()) {
+        Ok(counted) => (accepted_of(Ok(counted.state), state), counted.panel.figure),
+        Err(refusal) => (accepted_of(Err(refusal), state), figure),
+    }
 }
 
 // Accepts a state as the last card of a shift, on a record with a figure.
 pub(crate) fn end_shift(figure: u32, state: State) -> ShiftEnded {
     let ended = panel::end_shift(figure, state.into());
     ShiftEnded {
-        accepted: accepted_of(ended.answer),
+        accepted: accepted_of(ended.answer, state),
         figure: ended.figure,
         fresh: ended.fresh,
     }
