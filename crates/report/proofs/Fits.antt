@@ -8,16 +8,17 @@ use lib.ListN.{length, drop, length-append}
 use Rattle.lists.specs.Words.{overlay}
 use Rattle.graphs.specs.Refusals.{unless_refused, lent, short}
 use Rattle.texts.specs.Loading.{Reading, refused, loaded}
-use Rattle.report.specs.declared.text.Report.{Report}
+use Rattle.std.specs.Prelude.{Result}
+use Rattle.refusals.specs.declared.Refusal.{Refusal}
 use Rattle.report.specs.Printed.{walk_printed, refusal_printed}
-use Rattle.report.specs.Report.{Told, graph_from, lent_areas, walk_reading, reported, report_of, told, line_bytes, line_left}
+use Rattle.report.specs.Report.{Told, graph_from, lent_areas, walk_reading, reported, report_of, bytes_in, told, line_bytes, line_left}
 
 reported-fits : (x : Reading) (after tail marks events output : List ℕ) → (reported x after tail marks events output).bytes ≤ length (reported x after tail marks events output).output
 reported-fits (refused k) after tail marks events output = omega arith
 reported-fits (loaded p) after tail marks events output = let ws = walk_printed (graph_from p) p.start in omega (arith, length-append ws (drop (length ws) output))
 
 -- So it is in what the call answers.
-pub printed-fits : (text after tail marks events output : List ℕ) (r : Report) {after' tail' marks' events' output' : List ℕ} → told r after' tail' marks' events' output' ≡ report_of text after tail marks events output → r.bytes ≤ length output'
+pub printed-fits : (text after tail marks events output : List ℕ) (r : Result ℕ Refusal) {after' tail' marks' events' output' : List ℕ} → told r after' tail' marks' events' output' ≡ report_of text after tail marks events output → bytes_in r ≤ length output'
 unfolding report_of
 printed-fits text after tail marks events output r e =
     let f = reported-fits (walk_reading (lent_areas after tail marks events output) text) after tail marks events output in
