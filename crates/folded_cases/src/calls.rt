@@ -120,12 +120,12 @@ pub(crate) fn make_call(call: Call, state: State, before: &[u16], lent: Lent<'_>
                 after: &*after,
                 tail: &*tail,
             };
-            reply_of(walkers::open(&g, before, s.start, marks, events), unopened(state))
+            reply_of(
+                walkers::open(&g, before, s.start, marks, events),
+                unopened(state),
+            )
         }
-        Call::Run(budget) => reply_of(
-            walkers::run(s, budget, after, tail, marks, events),
-            state,
-        ),
+        Call::Run(budget) => reply_of(walkers::run(s, budget, after, tail, marks, events), state),
         Call::Step => reply_of(walkers::step(s, after, tail, marks, events), state),
         Call::RollBack => reply_of(walkers::roll_back(s), state),
     }
