@@ -1,21 +1,13 @@
-// Numbers by chance, the same in every run: linear congruential steps in 32 bits, the higher half folded into the lower between them.
-
-// A number with its higher half folded into the lower.
-fn folded(x: u32) -> u32 {
-    x ^ (x >> 16)
-}
+// Numbers by chance, in the sizes that the cases ask for.
 
 // What a seed gives at a place: a number below 32,768.
 fn drawn(seed: u16, place: u16) -> u16 {
-    let x = folded(u32::from(seed) * 65536 + u32::from(place));
-    let y = folded(x.wrapping_mul(2146121005));
-    let z = folded(y.wrapping_mul(2221713035));
-    (z % 32768) as u16
+    draws::drawn(seed.into(), place.into())
 }
 
 // The draw of a seed at a place: a number below k, and 0 where k is 0.
 pub(crate) fn draw(seed: u16, place: u16, k: u16) -> u16 {
-    drawn(seed, place).checked_rem(k).unwrap_or(0)
+    draws::draw(seed.into(), place.into(), k)
 }
 
 // The draw of a seed at a place: a place or a length below k, and 0 where k is 0.
