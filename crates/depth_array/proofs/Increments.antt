@@ -21,7 +21,6 @@ use Rattle.graphs.proofs.Room.{array-ready}
 use Rattle.graphs.proofs.Places.{Frame, frame, parent, path, Above, of-rest, scene-edge}
 use Rattle.graphs.proofs.Trees.{AllTrees, no-tree, all-trees}
 use Rattle.graphs.proofs.Tails.{tails-length, tails-kept}
-use Rattle.arrays.specs.Arrays.{array_in}
 use Rattle.walks.specs.Writing.{total}
 use Rattle.walks.specs.Moves.{Underway}
 use Rattle.walks.proofs.Storing.{all-cleared}
@@ -231,33 +230,33 @@ unframed G start (frame u du r ru ∷ s) v up e = absurd (let hu = up.1 in omega
 
 -- ---- at a place
 -- The numbers at a place.
-pub record Within (a : ArrayForm) (tails increments : List ℕ) (p : Place) : Type 0 where
-  pub few_vertices : a.n ≤ 1000
-  pub few_edges : a.m ≤ 4000
-  pub long_firsts : a.n < length a.firsts
-  pub long_tails : a.m ≤ length tails
-  pub long-increments : a.n ≤ length increments
+pub record Within (n m : ℕ) (firsts tails increments : List ℕ) (p : Place) : Type 0 where
+  pub few_vertices : n ≤ 1000
+  pub few_edges : m ≤ 4000
+  pub long_firsts : n < length firsts
+  pub long_tails : m ≤ length tails
+  pub long-increments : n ≤ length increments
   pub low-vertex : 1 ≤ p.v.0
-  pub high-vertex : p.v.0 ≤ a.n
+  pub high-vertex : p.v.0 ≤ n
   pub low : 1 ≤ p.p.0
-  pub from : get_or a.firsts (p.v.0 - 1) 0 ≤ p.p.0
-  pub up_to : p.p.0 ≤ get_or a.firsts p.v.0 0
+  pub from : get_or firsts (p.v.0 - 1) 0 ≤ p.p.0
+  pub up_to : p.p.0 ≤ get_or firsts p.v.0 0
 
 -- The numbers where an edge is ahead: its position is one, and its tail a vertex.
-pub record Tail (a : ArrayForm) (tails marks : List ℕ) (p : Place) : Type 0 where
-  pub high : p.p.0 ≤ a.m
+pub record Tail (n m : ℕ) (tails marks : List ℕ) (p : Place) : Type 0 where
+  pub high : p.p.0 ≤ m
   pub low-tail : 1 ≤ get_or tails (p.p.0 - 1) 0
-  pub high-tail : get_or tails (p.p.0 - 1) 0 ≤ a.n
-  pub long_marks : a.n ≤ length marks
+  pub high-tail : get_or tails (p.p.0 - 1) 0 ≤ n
+  pub long_marks : n ≤ length marks
   pub few : 2 + total p.tally ≤ 10000
 
 -- The numbers where v is left along a tree edge: its parent is a vertex, and the edge has a position.
-pub record Back (a : ArrayForm) (increments : List ℕ) (p : Place) : Type 0 where
+pub record Back (n m : ℕ) (firsts increments : List ℕ) (p : Place) : Type 0 where
   pub low-parent : 1 ≤ p.f.0
-  pub high-parent : p.f.0 ≤ a.n
+  pub high-parent : p.f.0 ≤ n
   pub some : 1 ≤ get_or increments (p.f.0 - 1) 0
-  pub low : 1 ≤ get_or a.firsts (p.f.0 - 1) 0 + get_or increments (p.f.0 - 1) 0 - 1
-  pub high : get_or a.firsts (p.f.0 - 1) 0 + get_or increments (p.f.0 - 1) 0 - 1 ≤ a.m
+  pub low : 1 ≤ get_or firsts (p.f.0 - 1) 0 + get_or increments (p.f.0 - 1) 0 - 1
+  pub high : get_or firsts (p.f.0 - 1) 0 + get_or increments (p.f.0 - 1) 0 - 1 ≤ m
   pub few : 2 + total p.tally ≤ 10000
 
 module _ {a : ArrayForm} {before : List ℕ} {start : ℕ} {marks₀ increments₀ events₀ tails marks increments events : List ℕ} {p : Place} (A : ArrayAt a before start marks₀ increments₀ events₀ tails marks increments events p) where
@@ -287,7 +286,7 @@ module _ {a : ArrayForm} {before : List ℕ} {start : ℕ} {marks₀ increments�
   increments-same : length increments ≡ length increments₀
   increments-same = ap length A.increments_left ∙ length-filled (increment_word G A.h) a.n increments₀ A.long
 
-  pub within : Within a tails increments p
+  pub within : Within a.n a.m a.firsts tails increments p
   within =
       let S = A.sound in
       let hv = vertex in
@@ -333,7 +332,7 @@ module _ {a : ArrayForm} {before : List ℕ} {start : ℕ} {marks₀ increments�
     target : Vertex a.n x
     target = subst (Vertex a.n) leads (moves.target-vertex on)
 
-    pub tail : Tail a tails marks p
+    pub tail : Tail a.n a.m tails marks p
     tail =
         let w = within in
         let top = A.sound.from_one (suc v) (omega arith) (omega arith) in
@@ -476,7 +475,7 @@ module _ {a : ArrayForm} {before : List ℕ} {start : ℕ} {marks₀ increments�
           let O = stand in
           omega (arith, word_back, sym (read_at a.firsts f) ∙ ap (at 0 a.firsts) is-parent)
 
-      pub back : Back a increments p
+      pub back : Back a.n a.m a.firsts increments p
       back =
           let O = stand in
           let w = parent-vertex in
@@ -611,10 +610,8 @@ module _ {n m : ℕ} {firsts tails marks increments events : List ℕ} {p : Plac
 
 -- What a move along the next edge reads and writes, and what one back along the trailer does.
 module _ {n m : ℕ} {firsts tails marks increments events : List ℕ} {p : Place} where
-  pub advance-reads : (S : SomeArrayAt n m firsts tails marks increments events p × (p.p.0 < at 0 firsts (suc p.v.0)))
-      → (let a = array_in n m firsts S.0.tails₀ in Within a tails increments p × Tail a tails marks p)
-  advance-reads S = (within S.0.is, tail S.0.is S.1)
+  pub advance-reads : SomeArrayAt n m firsts tails marks increments events p × (p.p.0 < at 0 firsts (suc p.v.0)) → Within n m firsts tails increments p × Tail n m tails marks p
+  advance-reads z = (within z.0.is, tail z.0.is z.1)
 
-  pub retreat-reads : (S : SomeArrayAt n m firsts tails marks increments events p × (p.p.0 ≡ at 0 firsts (suc p.v.0)) × (p.f.0 ≢ 0))
-      → (let a = array_in n m firsts S.0.tails₀ in Within a tails increments p × Back a increments p)
-  retreat-reads S = (within S.0.is, back S.0.is S.1 S.2)
+  pub retreat-reads : SomeArrayAt n m firsts tails marks increments events p × (p.p.0 ≡ at 0 firsts (suc p.v.0)) × (p.f.0 ≢ 0) → Within n m firsts tails increments p × Back n m firsts increments p
+  retreat-reads z = (within z.0.is, back z.0.is z.1 z.2)
