@@ -1,7 +1,7 @@
 // The state of a folded search in the second implementation, the bounds of its fields, and the numbers that they show where they are out
 // of their bounds.
 
-// What the words of a search's phase say. Those from 7 on, and 0, are out of bounds.
+// What the words of a search's phase say. They are numbers, since states of any words are drawn: those from 7 on, and 0, are out of bounds.
 pub(crate) const SCANNING: u16 = 1;
 
 pub(crate) const TURNING: u16 = 2;
