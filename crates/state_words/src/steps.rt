@@ -37,10 +37,13 @@ pub fn open_in_words(
         return number(check_search(&g, before, Vertex(start), false));
     }
     let r = open(&g, before, Vertex(start), marks, events);
-    if let Ok(reply) = r {
-        write_state(reply.state, state);
+    match r {
+        Ok(reply) => {
+            write_state(reply.state, state);
+            0
+        }
+        Err(refusal) => refusal.number(),
     }
-    number(r)
 }
 
 // Hands a reply back: of a call that is taken, the steps made, the events written, the reason and the state; of a refused one its number.
