@@ -197,13 +197,48 @@ pub(crate) fn hostile_case(case: &mut Case, i: u16) -> Result<(), AllocError> {
     perform(case, &script)
 }
 
-// A long profile: at the limits, from vertex 1 and from another, or with a vertex or an edge too many.
-fn long_profile(chance: Chance, way: u16) -> Profile {
-    let (n, m, start) = match way {
-        1 => (1000, 4000, chance.up_to(9003, 1000)),
-        2 => (1001, 4000, 1),
-        3 => (1000, 4001, 1),
-        _ => (1000, 4000, 1),
+// Long cases: at the limits, from vertex 1 and from another in one run; with a vertex or an edge too many; in runs of 1,000 steps; rolled
+// back after half of the steps.
+#[derive(Clone, Copy, PartialEq, Eq)]
+enum Long {
+    Whole,
+    FromAnother,
+    VertexTooMany,
+    EdgeTooMany,
+    InParts,
+    RolledBack,
+}
+
+impl Long {
+    // The case of a number from 0 on, in turn.
+    fn numbered(k: u16) -> Long {
+        match k % 6 {
+            0 => Long::Whole,
+            1 => Long::FromAnother,
+            2 => Long::VertexTooMany,
+            3 => Long::EdgeTooMany,
+            4 => Long::InParts,
+            _ => Long::RolledBack,
+        }
+    }
+
+    // The budget of its first run.
+    fn budget(self) -> u32 {
+        match self {
+            Long::InParts => 1000,
+            Long::RolledBack => 4500,
+            Long::Whole | Long::FromAnother | Long::VertexTooMany | Long::EdgeTooMany => 9000,
+        }
+    }
+}
+
+// The profile of a long case.
+fn long_profile(chance: Chance, long: Long) -> Profile {
+    let (n, m, start) = match long {
+        Long::FromAnother => (1000, 4000, chance.up_to(9003, 1000)),
+        Long::VertexTooMany => (1001, 4000, 1),
+        Long::EdgeTooMany => (1000, 4001, 1),
+        Long::Whole | Long::InParts | Long::RolledBack => (1000, 4000, 1),
     };
     Profile {
         n,
@@ -213,10 +248,9 @@ fn long_profile(chance: Chance, way: u16) -> Profile {
     }
 }
 
-// Long profiles of each family but the last, without a list of elements already on the blank, and with one: in runs of 1,000 steps, rolled
-// back after half of the steps, or in one run.
+// Long profiles of each family but the last, without a list of elements already on the blank, and with one.
 pub(crate) fn long_case(case: &mut Case, i: u16) -> Result<(), AllocError> {
-    let way = i / 9 % 6;
+    let long = Long::numbered(i / 9);
     let chance = Chance {
         seed: i % 9 * 1000 + i / 9,
     };
@@ -226,19 +260,15 @@ pub(crate) fn long_case(case: &mut Case, i: u16) -> Result<(), AllocError> {
         ListKind::drawn(chance)
     };
     case.begin(chance.seed);
-    case.make(long_profile(chance, way), kind)?;
+    case.make(long_profile(chance, long), kind)?;
     case.compare(Call::Open)?;
     if case.answer.is_err() {
         return Ok(());
     }
     let mut script = [Line::of(Call::Run(1000)); 9];
-    let budget = match way {
-        4 => 1000,
-        5 => 4500,
-        _ => 9000,
-    };
+    let budget = long.budget();
     script[0] = Line::of(Call::Run(budget));
-    if way == 5 {
+    if long == Long::RolledBack {
         script[1] = Line::of(Call::RollBack);
     }
     finish(case, budget, &script)

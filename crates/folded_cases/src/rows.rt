@@ -612,9 +612,9 @@ fn is_withdrawn(second: &Second, end: &End) -> bool {
 }
 
 // To the end, or rolled back after a step.
-fn run_row(case: &mut Case, end: &End, way: u16) -> Result<(), AllocError> {
+fn run_row(case: &mut Case, end: &End, is_whole: bool) -> Result<(), AllocError> {
     let run = Line::of(Call::Run(30));
-    if way == 0 {
+    if is_whole {
         finish(case, 30, &[run])?;
     } else {
         finish(
@@ -643,7 +643,7 @@ pub(crate) fn row_case(case: &mut Case, i: u16) -> Result<(), AllocError> {
     case.compare(Call::Open)?;
     let answer = case.answer;
     match &row.expected {
-        Ok(end) if answer.is_ok() => run_row(case, end, i % 2)?,
+        Ok(end) if answer.is_ok() => run_row(case, end, i % 2 == 0)?,
         Err(number) => case.note(answer != Err(*number)),
         Ok(_) => case.note(true),
     }
