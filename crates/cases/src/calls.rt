@@ -6,14 +6,17 @@ fn answered(number: u16) -> Result<(), u16> {
     if number == 0 { Ok(()) } else { Err(number) }
 }
 
+// Whether an image is taken.
 pub(crate) fn check_image(n: u16, m: u16, after: &[u16], tail: &[u16]) -> Result<(), u16> {
     answered(images::check_image(n, m, after, tail))
 }
 
+// Whether a tail is no vertex.
 pub(crate) fn tail_out(n: u16, m: u16, tail: &[u16]) -> bool {
     images::tail_out(n, m, tail)
 }
 
+// The conversion of an image to array form, into the last three areas.
 pub(crate) fn to_array(
     n: u16,
     m: u16,
@@ -26,6 +29,7 @@ pub(crate) fn to_array(
     answered(arrays::to_array(n, m, after, tail, firsts, tails, numbers))
 }
 
+// Whether a query of an array form is taken.
 pub(crate) fn edges_out_number(
     n: u16,
     m: u16,
@@ -36,14 +40,17 @@ pub(crate) fn edges_out_number(
     answered(arrays::edges_out_number(n, m, firsts, tails, images::Vertex(u)))
 }
 
+// The tails of the edges that leave a vertex; none where the query is refused.
 pub(crate) fn edges_out<'a>(n: u16, m: u16, firsts: &[u16], tails: &'a [u16], u: u16) -> &'a [u16] {
     arrays::edges_out(n, m, firsts, tails, images::Vertex(u))
 }
 
+// Whether a word is a vertex.
 pub(crate) fn is_vertex(n: u16, x: u16) -> bool {
     images::is_vertex(n, images::Vertex(x))
 }
 
+// Whether a word is a link: 0 or an edge.
 pub(crate) fn is_link(n: u16, m: u16, x: u16) -> bool {
     images::is_link(n, m, images::Edge(x))
 }
@@ -56,6 +63,7 @@ pub(crate) fn read_number(text: &[u8], at: usize) -> Option<(u16, usize)> {
     }
 }
 
+// The place past a number that is written at a place, or that place where there is no room.
 pub(crate) fn write_number(x: u16, area: &mut [u8], at: usize) -> usize {
     numbers::write_number(x, area, at)
 }
@@ -67,6 +75,7 @@ pub(crate) struct Loaded {
     pub(crate) start: u16,
 }
 
+// What is loaded of a text into the areas.
 pub(crate) fn read_profile(
     text: &[u8],
     after: &mut [u16],
@@ -87,6 +96,7 @@ fn reported(report: report::Report) -> Result<usize, u16> {
     Ok(report.bytes)
 }
 
+// How many bytes are printed of the walk of a text.
 pub(crate) fn walk_text(
     text: &[u8],
     after: &mut [u16],
@@ -98,6 +108,7 @@ pub(crate) fn walk_text(
     reported(report::walk_text(text, after, tail, marks, events, output))
 }
 
+// How many bytes the line of a refusal has.
 pub(crate) fn refusal_line(number: u16, output: &mut [u8]) -> Result<usize, u16> {
     reported(report::refusal_line(number, output))
 }
