@@ -30,7 +30,7 @@ struct CheckRow {
 }
 
 // Sizes and lengths of the largest image as it was drawn.
-const fn sized(n: u16, m: u16, after: usize, tail: usize, number: u16) -> CheckRow {
+fn sized(n: u16, m: u16, after: usize, tail: usize, number: u16) -> CheckRow {
     CheckRow {
         n,
         m,
@@ -42,7 +42,7 @@ const fn sized(n: u16, m: u16, after: usize, tail: usize, number: u16) -> CheckR
 }
 
 // The largest image with one word replaced.
-const fn with_word(replaced: Replaced, number: u16) -> CheckRow {
+fn with_word(replaced: Replaced, number: u16) -> CheckRow {
     CheckRow {
         n: 1000,
         m: 4000,

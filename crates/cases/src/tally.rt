@@ -12,7 +12,7 @@ pub(crate) struct Outcome {
 }
 
 impl Outcome {
-    // The outcome of a call's answer, where the second implementation has another.
+    // The outcome of a call's answer, set beside what the second implementation says.
     pub(crate) fn of<T: PartialEq + Drop>(
         first: Result<T, u16>,
         second: Result<T, u16>,
