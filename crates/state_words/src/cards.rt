@@ -16,7 +16,7 @@ pub fn accept_in_words(state: &mut [u16], figure: &mut u32) -> u16
     ensures state { state.new ≡ unless_refused result (overlay (state_words (accepted_in figure.old state.old).answer.state) state.old) state.old }
 {
     if state.len() < 9 {
-        return Refusal::Area.number();
+        return Refusal::Area as u16;
     }
     let s = read_state(state);
     let p = Panel { figure: *figure };

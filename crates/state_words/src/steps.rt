@@ -83,7 +83,7 @@ pub fn step_in_words(
     ensures { handing result steps.new made.new reason.new state.new after.new tail.new marks.new events.new ≡ handed (served_in state.old after.old tail.old marks.old (single events.old)) steps.old made.old reason.old state.old }
 {
     if state.len() < 9 {
-        return Refusal::Area.number();
+        return Refusal::Area as u16;
     }
     let s = read_state(state);
     let r = step(s, after, tail, marks, events);
@@ -105,7 +105,7 @@ pub fn run_in_words(
     ensures { handing result steps.new made.new reason.new state.new after.new tail.new marks.new events.new ≡ handed (served_in state.old after.old tail.old marks.old (run_for budget events.old)) steps.old made.old reason.old state.old }
 {
     if state.len() < 9 {
-        return Refusal::Area.number();
+        return Refusal::Area as u16;
     }
     let s = read_state(state);
     let r = run(s, budget, after, tail, marks, events);
@@ -118,7 +118,7 @@ pub fn roll_back_in_words(state: &mut [u16]) -> u16
     ensures state { (after tail marks : List ℕ) → state.new ≡ (handed (served_in state.old after tail marks roll_back) 0 0 0 state.old).state }
 {
     if state.len() < 9 {
-        return Refusal::Area.number();
+        return Refusal::Area as u16;
     }
     let s = read_state(state);
     let r = roll_back(s);
