@@ -12,7 +12,7 @@ use Rattle.state_words.proofs.steps.roll_back_in_words.Goals as goal
 pub returns-then-state-lt9 : goal.returns-then-state-lt9
 returns-then-state-lt9 c =
     let w = c.args.state.now in
-    record { number = λ after tail marks. c.number.ensures ∙ ap (λ (h : Handed). h.number) (handed-short w after tail marks roll_back 0 0 0 c.if-state-lt9.true); state = λ after tail marks. ap (λ (h : Handed). h.state) (handed-short w after tail marks roll_back 0 0 0 c.if-state-lt9.true) }
+    record { number = λ after tail marks. ap (λ (h : Handed). h.number) (handed-short w after tail marks roll_back 0 0 0 c.if-state-lt9.true); state = λ after tail marks. ap (λ (h : Handed). h.state) (handed-short w after tail marks roll_back 0 0 0 c.if-state-lt9.true) }
 
 pub returns : goal.returns
 returns c =

@@ -9,7 +9,7 @@ use Rattle.state_words.proofs.steps.run_in_words.Goals as goal
 pub returns-then-state-lt9 : goal.returns-then-state-lt9
 returns-then-state-lt9 c =
     let z = c.args in
-    rw c.number.ensures (handed-short z.state.now z.after.now z.tail.now z.marks.now (run_for z.budget z.events.now) z.steps.now z.made.now z.reason.now c.if-state-lt9.true)
+    handed-short z.state.now z.after.now z.tail.now z.marks.now (run_for z.budget z.events.now) z.steps.now z.made.now z.reason.now c.if-state-lt9.true
 
 pub returns : goal.returns
 returns c =
