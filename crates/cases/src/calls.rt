@@ -41,13 +41,23 @@ pub(crate) fn check_query(
     tails: &[u16],
     u: u16,
 ) -> Result<(), u16> {
-    let a = ArrayForm { n, m, firsts, tails };
+    let a = ArrayForm {
+        n,
+        m,
+        firsts,
+        tails,
+    };
     numbered(arrays::check_query(&a, Vertex(u)))
 }
 
 // The tails of the edges that leave a vertex; none where the query is refused.
 pub(crate) fn edges_out<'a>(n: u16, m: u16, firsts: &[u16], tails: &'a [u16], u: u16) -> &'a [u16] {
-    let a = ArrayForm { n, m, firsts, tails };
+    let a = ArrayForm {
+        n,
+        m,
+        firsts,
+        tails,
+    };
     arrays::edges_out(&a, Vertex(u))
 }
 

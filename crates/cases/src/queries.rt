@@ -1,6 +1,6 @@
 // The array form judged and asked a second way: words are counted, and each position is asked whether it is of the vertex.
 use crate::areas::{SPAN, of_node, part, store, word};
-use crate::calls::{edges_out, check_query};
+use crate::calls::{check_query, edges_out};
 use crate::chance::draw_below;
 use crate::drawn::{damage, damaged_place, draw_length, draw_sizes, other_seed, other_sizes};
 use crate::image::{Sizes, are_vertices};
