@@ -4,7 +4,7 @@
 use Rattle.std.proofs.Common.{◌≡◌, refl, sym, ap, ◌∙◌, subst, ◌≢◌, Bool, true, false, not, ◌&&◌, cond, List, [], ◌∷◌, ◌++◌, append_assoc, append-nil, ℕ, zero, suc, ◌+◌, ◌-◌, ◌*◌, ◌≤◌, arith, leb, Some, None, length, length-append, leb-true}
 use Rattle.lists.specs.Words.{overlay, pasted}
 use Rattle.lists.proofs.Tests.{clash}
-use Rattle.lists.proofs.Words.{pasted-front, pasted-pasted}
+use Rattle.lists.proofs.Words.{length-pasted, pasted-front, pasted-pasted}
 use Rattle.graphs.proofs.Nodes.{vertex-is, link-not-null, link-node}
 use Rattle.graphs.specs.Events.{Event, words}
 use Rattle.graphs.proofs.Room.{words-length}
@@ -249,9 +249,9 @@ module _ {k : ℕ} {w₀ : Config} {area₀ : List ℕ} {s : State} {after tail 
             ∙ done Stuck (ap (λ (j : ℕ). run j w) left ∙ run-stuck (k - (steps + 1)) w o T.0)
 
         -- It is made: the run goes on.
-        pub going_on : (r : Tried) → tried (Some r) (config_of s after' tail' marks') count area' ≡ trying w (step_of w) count area → length after' ≡ length after → length tail' ≡ length tail → length marks' ≡ length marks → length area' ≡ length area
+        pub going_on : (r : Tried) → tried (Some r) (config_of s after' tail' marks') count area' ≡ trying w (step_of w) count area
             → Going k w₀ area₀ r.state after' tail' marks' area' (steps + 1) r.made
-        going_on r t la lt lm le =
+        going_on r t =
             let T = tried-made w count area t refl in
             let u = config_of r.state after' tail' marks' in
             let es = (step w).events in
@@ -262,6 +262,10 @@ module _ {k : ℕ} {w₀ : Config} {area₀ : List ℕ} {s : State} {after tail 
             let K : Fields u = subst Fields (sym c) M.fields in
             let n : r.state.n ≡ s.n = ap (λ (x : Config). x.n) c ∙ M.within.same_n in
             let m : r.state.m ≡ s.m = ap (λ (x : Config). x.m) c ∙ M.within.same_m in
+            let la : length after' ≡ length after = ap (λ (x : Config). length x.after) c ∙ M.within.after_length in
+            let lt : length tail' ≡ length tail = ap (λ (x : Config). length x.tail) c ∙ M.within.tail_length in
+            let lm : length marks' ≡ length marks = ap (λ (x : Config). length x.marks) c ∙ M.within.marks_length in
+            let le : length area' ≡ length area = ap (λ (x : Attempt). length x.area) T.1 ∙ length-pasted (3 * count) area (omega (arith, room-left)) (words es) (omega (arith, room-left, words-length es, M.few)) in
             let next : run (k - steps) w ≡ onward es (run (k - (steps + 1)) u) = ap (λ (j : ℕ). run j w) left ∙ run_on (k - (steps + 1)) w o T.0 ∙ ap (λ (x : Config). onward es (run (k - (steps + 1)) x)) (sym c) in
             record {
               log = G.log ++ es;

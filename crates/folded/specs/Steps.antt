@@ -1,11 +1,12 @@
 -- A step tried on any words that its areas hold: it fits and is made, or it is out of kind and nothing changes.
-use Rattle.std.specs.Prelude.{◌≢◌, Bool, true, false, cond, ◌&&◌, List, ℕ, suc, ◌+◌, ◌*◌, ◌≤◌, ◌<◌, length, Option, Some, None}
+use Rattle.std.specs.Prelude.{◌≡◌, ◌≢◌, Bool, true, false, cond, ◌&&◌, List, ℕ, suc, ◌+◌, ◌*◌, ◌≤◌, ◌<◌, length, Option, Some, None}
 use Rattle.lists.specs.Words.{pasted}
 use Rattle.graphs.specs.Nodes.{is_edge, is_node}
 use Rattle.graphs.specs.Events.{words}
 use Rattle.folding.specs.Machine.{Config, Step, tree, nontree, fresh, target, upward, fits, Stepped, enact}
 use Rattle.states.specs.declared.values.State.{State}
 use Rattle.states.specs.Answers.{config_of}
+use Rattle.folded.specs.declared.areas.Areas.{Areas}
 use Rattle.folded.specs.declared.tried.Tried as code
 
 -- Whether the step fits, what it leaves, how many events the area holds, and the area.
@@ -53,3 +54,23 @@ pub record Ready (s : State) (a t k : ℕ) : Type 0 where
   pub long_after : s.n + s.m ≤ a
   pub long_tail : s.m ≤ t
   pub long_marks : s.n + s.m ≤ k
+
+-- The state, with the words that its areas hold.
+abbrev pub held : State → Areas → Config
+held s a = config_of s a.after.now a.tail.now a.marks.now
+
+-- Areas as long as the sizes of a state ask, whose fields are in kind.
+abbrev pub Lent : State → Areas → Type 0
+Lent s a = Ready s (length a.after.now) (length a.tail.now) (length a.marks.now)
+
+-- Behind k events there is room for two more.
+abbrev pub Room : ℕ → Areas → Type 0
+Room k a = 3 * k + 6 ≤ length a.events.now
+
+-- The areas stay where they are: only their words differ.
+abbrev pub Same : Areas → Areas → Type 0
+Same a b = (b.after.ghost_name ≡ a.after.ghost_name) × (b.tail.ghost_name ≡ a.tail.ghost_name) × (b.marks.ghost_name ≡ a.marks.ghost_name) × (b.events.ghost_name ≡ a.events.ghost_name)
+
+-- What the step p leaves once it is tried on areas behind k events.
+abbrev pub Tries : State → Step → ℕ → (old new : Areas) → Option code.Tried → Type 0
+Tries s p k old new r = tried r (held s new) k new.events.now ≡ trying (held s old) p k old.events.now

@@ -1,11 +1,11 @@
 // The steps back: an edge of the list that was passed is put back; the scan of v ends; v is left while rolling back.
-ghost use Rattle.std.specs.Prelude.{◌≡◌, IfSome, List, ℕ, ◌+◌, ◌*◌, ◌≤◌, ◌<◌, eqb, length};
+ghost use Rattle.std.specs.Prelude.{◌≡◌, IfSome, ◌+◌, ◌≤◌, ◌<◌, eqb, length};
 ghost use Rattle.lists.specs.Words.{at, put};
 ghost use Rattle.graphs.specs.Results.{rest_mark, marks_rest};
 ghost use Rattle.folding.specs.Machine.{scan_mark, rolling_back, relinked, relink, retreat, finish, undo_tree, undo_open};
-ghost use Rattle.states.specs.Answers.{config_of};
-ghost use Rattle.folded.specs.Steps.{Ready, tried, trying, upward_in};
+ghost use Rattle.folded.specs.Steps.{Lent, Room, Same, Tries, held, upward_in};
 
+use crate::areas::Areas;
 use crate::tried::{Tried, is_edge, read_after, write};
 use images::{Edge, Vertex, is_link};
 use states::{Phase, State};
@@ -23,17 +23,18 @@ fn relinked(phase: u16) -> u16
 }
 
 // Puts back f, an edge (document 01: Turn): e, f, a(f) become f, a(f), e.
-pub(crate) fn relink(s: State, after: &mut [u16], made: usize) -> Option<Tried>
-    requires { (s.n < s.f) × (s.f ≤ length after.old) }
-    ensures { (tail marks area : List ℕ) → tried result (config_of s after.new tail marks) made area ≡ trying (config_of s after.old tail marks) relink made area }
+pub(crate) fn relink(s: State, areas: &mut Areas, made: usize) -> Option<Tried>
+    requires { Lent s areas.old × (s.n < s.f) }
+    ensures left { Tries s relink made areas.old areas.new result }
+    ensures same { Same areas.old areas.new }
 {
     let f = s.f;
     let i = f as usize - 1;
-    let w = after[i];
+    let w = areas.after[i];
     if w as usize > s.n as usize + s.m as usize {
         return None;
     }
-    after[i] = s.e.0;
+    areas.after[i] = s.e.0;
     let phase = relinked(s.phase);
     let state = State {
         e: Edge(f),
@@ -45,19 +46,19 @@ pub(crate) fn relink(s: State, after: &mut [u16], made: usize) -> Option<Tried>
 }
 
 // The tree edge into v, which is a(f) once a(v) is e; none where that is no edge, or where its tail word cannot be a trailer.
-fn tree_edge(s: State, after: &[u16], tail: &[u16]) -> Option<u16>
-    requires { Ready s (length after.now) (length tail.now) (s.n + s.m) × (0 < s.f) × (s.f ≤ s.n) }
-    ensures read { (marks : List ℕ) → result ≡ upward_in (config_of s after.now tail.now marks) }
+fn tree_edge(s: State, areas: &Areas) -> Option<u16>
+    requires { Lent s areas.now × (0 < s.f) × (s.f ≤ s.n) }
+    ensures read { result ≡ upward_in (held s areas.now) }
     ensures edge { IfSome result (λ r. (s.n < r) × (r ≤ s.n + s.m)) }
 {
     let n = s.n;
     let m = s.m;
-    let r = read_after(after, s.f, s.v.0, s.e.0);
+    let r = read_after(areas, s.f, s.v.0, s.e.0);
     if !is_edge(n, m, r) {
         return None;
     }
     let j = r as usize - n as usize - 1;
-    if tail[j] as usize > n as usize + m as usize {
+    if areas.tail[j] as usize > n as usize + m as usize {
         return None;
     }
     Some(r)
@@ -73,35 +74,29 @@ fn unmark(marks: &mut [u16], v: u16)
 }
 
 // Ends the scan of v, and goes back along the tree edge into it (document 01: Close).
-pub(crate) fn retreat(
-    s: State,
-    after: &mut [u16],
-    tail: &mut [u16],
-    marks: &mut [u16],
-    events: &mut [u16],
-    made: usize,
-) -> Option<Tried>
-    requires { Ready s (length after.old) (length tail.old) (length marks.old) × (0 < s.f) × (s.f ≤ s.n) × (3 * made + 6 ≤ length events.old) }
-    ensures { tried result (config_of s after.new tail.new marks.new) made events.new ≡ trying (config_of s after.old tail.old marks.old) retreat made events.old }
+pub(crate) fn retreat(s: State, areas: &mut Areas, made: usize) -> Option<Tried>
+    requires { Lent s areas.old × (0 < s.f) × (s.f ≤ s.n) × Room made areas.old }
+    ensures left { Tries s retreat made areas.old areas.new result }
+    ensures same { Same areas.old areas.new }
 {
     let n = s.n;
     let v = s.v.0;
     let f = s.f;
-    let r = tree_edge(s, after, tail)?;
+    let r = tree_edge(s, areas)?;
     let i = r as usize - 1;
-    let y = Edge(after[i]);
+    let y = Edge(areas.after[i]);
     if !is_link(n, s.m, y) {
         return None;
     }
     let k = v as usize - 1;
-    after[k] = s.e.0; // a(v) becomes e at the end of a scan
+    areas.after[k] = s.e.0; // a(v) becomes e at the end of a scan
     let j = r as usize - n as usize - 1;
-    let w = tail[j];
-    tail[j] = v;
-    after[i] = w;
-    unmark(marks, v);
+    let w = areas.tail[j];
+    areas.tail[j] = v;
+    areas.after[i] = w;
+    unmark(areas.marks, v);
     write(
-        events,
+        areas.events,
         made,
         &[Kind::Scan as u16, 0, v, Kind::RetreatTree as u16, r, f],
     );
@@ -119,24 +114,19 @@ pub(crate) fn retreat(
 }
 
 // Ends the scan of the start.
-pub(crate) fn finish(
-    s: State,
-    after: &mut [u16],
-    marks: &mut [u16],
-    events: &mut [u16],
-    made: usize,
-) -> Option<Tried>
-    requires { (0 < s.v.0) × (s.v.0 ≤ length after.old) × (s.v.0 ≤ length marks.old) × (3 * made + 6 ≤ length events.old) }
-    ensures { (tail : List ℕ) → tried result (config_of s after.new tail marks.new) made events.new ≡ trying (config_of s after.old tail marks.old) finish made events.old }
+pub(crate) fn finish(s: State, areas: &mut Areas, made: usize) -> Option<Tried>
+    requires { Lent s areas.old × Room made areas.old }
+    ensures left { Tries s finish made areas.old areas.new result }
+    ensures same { Same areas.old areas.new }
 {
     let v = s.v.0;
     if v != s.start.0 {
         return None;
     }
     let i = v as usize - 1;
-    after[i] = s.e.0;
-    unmark(marks, v);
-    write(events, made, &[Kind::Scan as u16, 0, v]);
+    areas.after[i] = s.e.0;
+    unmark(areas.marks, v);
+    write(areas.events, made, &[Kind::Scan as u16, 0, v]);
     let state = State {
         phase: Phase::Finished as u16,
         ..s
@@ -148,18 +138,19 @@ pub(crate) fn finish(
 }
 
 // Leaves v along the tree edge into it, rolling back.
-pub(crate) fn undo_tree(s: State, after: &mut [u16], tail: &mut [u16], made: usize) -> Option<Tried>
-    requires { Ready s (length after.old) (length tail.old) (s.n + s.m) × (0 < s.f) × (s.f ≤ s.n) }
-    ensures { (marks area : List ℕ) → tried result (config_of s after.new tail.new marks) made area ≡ trying (config_of s after.old tail.old marks) undo_tree made area }
+pub(crate) fn undo_tree(s: State, areas: &mut Areas, made: usize) -> Option<Tried>
+    requires { Lent s areas.old × (0 < s.f) × (s.f ≤ s.n) }
+    ensures left { Tries s undo_tree made areas.old areas.new result }
+    ensures same { Same areas.old areas.new }
 {
     let n = s.n;
     let v = s.v.0;
-    let r = tree_edge(s, after, tail)?;
+    let r = tree_edge(s, areas)?;
     let k = v as usize - 1;
-    after[k] = s.e.0; // a(v) becomes e in a roll-back
+    areas.after[k] = s.e.0; // a(v) becomes e in a roll-back
     let j = r as usize - n as usize - 1;
-    let w = tail[j];
-    tail[j] = v;
+    let w = areas.tail[j];
+    areas.tail[j] = v;
     let state = State {
         v: Vertex(s.f),
         e: Edge(r),
@@ -188,22 +179,18 @@ fn rest_marks(marks: &mut [u16], n: usize)
 }
 
 // Leaves the start, rolling back: the marks of the n vertices become 0, but 65,535 stays.
-pub(crate) fn undo_open(
-    s: State,
-    after: &mut [u16],
-    marks: &mut [u16],
-    made: usize,
-) -> Option<Tried>
-    requires { (0 < s.v.0) × (s.v.0 ≤ length after.old) × (s.n ≤ length marks.old) }
-    ensures { (tail area : List ℕ) → tried result (config_of s after.new tail marks.new) made area ≡ trying (config_of s after.old tail marks.old) undo_open made area }
+pub(crate) fn undo_open(s: State, areas: &mut Areas, made: usize) -> Option<Tried>
+    requires { Lent s areas.old }
+    ensures left { Tries s undo_open made areas.old areas.new result }
+    ensures same { Same areas.old areas.new }
 {
     let v = s.v.0;
     if v != s.start.0 {
         return None;
     }
     let i = v as usize - 1;
-    after[i] = s.e.0;
-    rest_marks(marks, s.n as usize);
+    areas.after[i] = s.e.0;
+    rest_marks(areas.marks, s.n as usize);
     let state = State {
         phase: Phase::RolledBack as u16,
         ..s

@@ -3,8 +3,9 @@ ghost use Rattle.std.specs.Prelude.{◌≡◌, ◌&&◌, ◌+◌, ◌*◌, ◌�
 ghost use Rattle.folding.specs.Calls.{run_for, single, perform};
 ghost use Rattle.folding.proofs.Fields.{Fields};
 ghost use Rattle.states.specs.Answers.{config_of, seen_of, told, told_taken, CallPromise};
-ghost use Rattle.folded.specs.Steps.{Ready};
+ghost use Rattle.folded.specs.Steps.{Lent, Same, held};
 
+use crate::areas::Areas;
 use crate::moves::make;
 use refusals::Refusal;
 use states::{Reason, Reply, State, check_state, is_over};
@@ -19,16 +20,10 @@ fn are_long(s: State, a: usize, t: usize, k: usize, long: bool) -> bool
 }
 
 // The steps of a run that is not refused: before each of them, ended, spent and stuck are tested in this order.
-fn drive(
-    s: State,
-    budget: u32,
-    after: &mut [u16],
-    tail: &mut [u16],
-    marks: &mut [u16],
-    events: &mut [u16],
-) -> Reply
-    requires { Ready s (length after.old) (length tail.old) (length marks.old) × Fields (config_of s after.old tail.old marks.old) × (6 * budget ≤ length events.old) }
-    ensures { told_taken result after.new tail.new marks.new events.new ≡ seen_of (perform (config_of s after.old tail.old marks.old) (run_for budget events.old)) }
+fn drive(s: State, budget: u32, areas: &mut Areas) -> Reply
+    requires { Lent s areas.old × Fields (held s areas.old) × (6 * budget ≤ length areas.old.events.now) }
+    ensures done { told_taken result areas.new.after.now areas.new.tail.now areas.new.marks.now areas.new.events.now ≡ seen_of (perform (held s areas.old) (run_for budget areas.old.events.now)) }
+    ensures same { Same areas.old areas.new }
 {
     let mut state = s;
     let mut steps: u32 = 0;
@@ -40,7 +35,7 @@ fn drive(
         if steps == budget {
             break Reason::Spent;
         }
-        let Some(next) = make(state, after, tail, marks, events, made) else {
+        let Some(next) = make(state, areas, made) else {
             break Reason::Stuck;
         };
         state = next.state;
@@ -71,7 +66,13 @@ pub fn step(
     if is_over(s) {
         return Err(Refusal::Over);
     }
-    let Some(next) = make(s, after, tail, marks, events, 0) else {
+    let areas = &mut Areas {
+        after,
+        tail,
+        marks,
+        events,
+    };
+    let Some(next) = make(s, areas, 0) else {
         return Err(Refusal::State);
     };
     Ok(Reply {
@@ -96,5 +97,11 @@ pub fn run(
     let long = 6 * (budget as usize) <= events.len();
     let all = are_long(s, after.len(), tail.len(), marks.len(), long);
     check_state(s, all)?;
-    Ok(drive(s, budget, after, tail, marks, events))
+    let areas = &mut Areas {
+        after,
+        tail,
+        marks,
+        events,
+    };
+    Ok(drive(s, budget, areas))
 }

@@ -1,28 +1,21 @@
 // The steps forward: a tree edge, and an edge to a vertex that is labelled.
-ghost use Rattle.std.specs.Prelude.{◌≡◌, true, cond, List, ℕ, ◌+◌, ◌*◌, ◌≤◌, ◌<◌, length};
+ghost use Rattle.std.specs.Prelude.{◌≡◌, true, cond, ◌≤◌, ◌<◌};
 ghost use Rattle.lists.specs.Words.{at};
 ghost use Rattle.graphs.specs.Nodes.{is_vertex};
 ghost use Rattle.folding.specs.Machine.{tree, nontree, unscanned};
-ghost use Rattle.states.specs.Answers.{config_of};
-ghost use Rattle.folded.specs.Steps.{Ready, tried, trying, onward};
+ghost use Rattle.folded.specs.Steps.{Lent, Room, Same, Tries, held, onward};
 
+use crate::areas::Areas;
 use crate::tried::{Tried, read_after, write};
 use images::{Edge, Vertex, is_link, is_vertex};
 use states::State;
 use walks::Kind;
 
 // Goes on along e to x, which is not labelled: a(v) becomes e; v, f, t(e) become x, v, f; x is marked 32,768 plus the next label number.
-fn tree(
-    s: State,
-    x: u16,
-    after: &mut [u16],
-    tail: &mut [u16],
-    marks: &mut [u16],
-    events: &mut [u16],
-    made: usize,
-) -> Option<Tried>
-    requires { Ready s (length after.old) (length tail.old) (length marks.old) × (s.n < s.e.0) × (x ≡ at s.n tail.old s.e.0) × (0 < x) × (x ≤ s.n) × (3 * made + 6 ≤ length events.old) }
-    ensures { tried result (config_of s after.new tail.new marks.new) made events.new ≡ trying (config_of s after.old tail.old marks.old) tree made events.old }
+fn tree(s: State, x: u16, areas: &mut Areas, made: usize) -> Option<Tried>
+    requires { Lent s areas.old × (s.n < s.e.0) × (x ≡ at s.n areas.old.tail.now s.e.0) × (0 < x) × (x ≤ s.n) × Room made areas.old }
+    ensures left { Tries s tree made areas.old areas.new result }
+    ensures same { Same areas.old areas.new }
 {
     let n = s.n;
     let v = s.v.0;
@@ -31,18 +24,18 @@ fn tree(
     if label > n {
         return None;
     }
-    let w = Edge(read_after(after, x, v, e));
+    let w = Edge(read_after(areas, x, v, e));
     if !is_link(n, s.m, w) {
         return None;
     }
     let i = v as usize - 1;
-    after[i] = e;
+    areas.after[i] = e;
     let j = e as usize - n as usize - 1;
-    tail[j] = s.f;
+    areas.tail[j] = s.f;
     let k = x as usize - 1;
-    marks[k] = label + 32768; // not yet scanned
+    areas.marks[k] = label + 32768; // not yet scanned
     write(
-        events,
+        areas.events,
         made,
         &[Kind::AdvanceTree as u16, e, v, Kind::Label as u16, 0, x],
     );
@@ -72,21 +65,22 @@ fn circled(mark: u16, circular: u16) -> u16
 }
 
 // Passes e, which leads to a labelled vertex with this mark: e, f, a(e) become a(e), e, f.
-fn nontree(s: State, mark: u16, after: &mut [u16], events: &mut [u16], made: usize) -> Option<Tried>
-    requires { (0 < s.e.0) × (s.e.0 ≤ length after.old) × (3 * made + 6 ≤ length events.old) }
-    ensures { (tail marks : List ℕ) → is_vertex s.n (at s.n tail s.e.0) ≡ true → mark ≡ at 0 marks (at s.n tail s.e.0) → tried result (config_of s after.new tail marks) made events.new ≡ trying (config_of s after.old tail marks) nontree made events.old }
+fn nontree(s: State, mark: u16, areas: &mut Areas, made: usize) -> Option<Tried>
+    requires { Lent s areas.old × (s.n < s.e.0) × (is_vertex s.n (at s.n areas.old.tail.now s.e.0) ≡ true) × (mark ≡ at 0 areas.old.marks.now (at s.n areas.old.tail.now s.e.0)) × Room made areas.old }
+    ensures left { Tries s nontree made areas.old areas.new result }
+    ensures same { Same areas.old areas.new }
 {
     let v = s.v.0;
     let e = s.e.0;
     let i = e as usize - 1;
-    let w = Edge(after[i]);
+    let w = Edge(areas.after[i]);
     if !is_link(s.n, s.m, w) {
         return None;
     }
     let circular = circled(mark, s.circular);
-    after[i] = s.f;
+    areas.after[i] = s.f;
     write(
-        events,
+        areas.events,
         made,
         &[
             Kind::AdvanceNontree as u16,
@@ -110,27 +104,21 @@ fn nontree(s: State, mark: u16, after: &mut [u16], events: &mut [u16], made: usi
 }
 
 // Traverses e.
-pub(crate) fn advance(
-    s: State,
-    after: &mut [u16],
-    tail: &mut [u16],
-    marks: &mut [u16],
-    events: &mut [u16],
-    made: usize,
-) -> Option<Tried>
-    requires { Ready s (length after.old) (length tail.old) (length marks.old) × (s.n < s.e.0) × (3 * made + 6 ≤ length events.old) }
-    ensures { tried result (config_of s after.new tail.new marks.new) made events.new ≡ trying (config_of s after.old tail.old marks.old) (onward (config_of s after.old tail.old marks.old)) made events.old }
+pub(crate) fn advance(s: State, areas: &mut Areas, made: usize) -> Option<Tried>
+    requires { Lent s areas.old × (s.n < s.e.0) × Room made areas.old }
+    ensures left { Tries s (onward (held s areas.old)) made areas.old areas.new result }
+    ensures same { Same areas.old areas.new }
 {
     let n = s.n;
     let j = s.e.0 as usize - n as usize - 1;
-    let x = tail[j];
+    let x = areas.tail[j];
     if !is_vertex(n, Vertex(x)) {
         return None;
     }
     let k = x as usize - 1;
-    let mark = marks[k];
+    let mark = areas.marks[k];
     if mark == 0 {
-        return tree(s, x, after, tail, marks, events, made);
+        return tree(s, x, areas, made);
     }
-    nontree(s, mark, after, events, made)
+    nontree(s, mark, areas, made)
 }

@@ -1,9 +1,10 @@
 // The folded depth-first search: single steps, and runs of them.
 //
 // Every public function takes any input at all: it is refused with its number of document 01 and changes nothing, or it does its work.
-// The areas stay parameters of their own: a step takes those that it writes, and so its contract leaves the others as they are.
+// `step` and `run` take the four areas one by one, as their callers hold them; inside, `Areas` carries them.
 #![tactic(auto)]
 
+mod areas;
 mod back;
 mod calls;
 mod forward;

@@ -3,6 +3,7 @@ ghost use Rattle.std.specs.Prelude.{◌≡◌, ◌+◌, ◌*◌, ◌≤◌, ◌<
 ghost use Rattle.lists.specs.Words.{at, put, pasted};
 ghost use Rattle.graphs.specs.Nodes.{is_edge};
 
+use crate::areas::Areas;
 use states::State;
 
 // A step made: the events in the area so far, and the state.
@@ -20,15 +21,15 @@ pub(crate) fn is_edge(n: u16, m: u16, r: u16) -> bool
 }
 
 // The after word of node x, as it is read once that of v is e.
-pub(crate) fn read_after(after: &[u16], x: u16, v: u16, e: u16) -> u16
-    requires { (0 < x) × (x ≤ length after.now) × (0 < v) × (v ≤ length after.now) }
-    ensures { result ≡ at 0 (put 0 after.now v e) x }
+pub(crate) fn read_after(areas: &Areas, x: u16, v: u16, e: u16) -> u16
+    requires { (0 < x) × (x ≤ length areas.now.after.now) × (0 < v) × (v ≤ length areas.now.after.now) }
+    ensures { result ≡ at 0 (put 0 areas.now.after.now v e) x }
 {
     if x == v {
         return e;
     }
     let i = x as usize - 1;
-    after[i]
+    areas.after[i]
 }
 
 // Writes the words of events behind the first `made`: three for each, its kind, edge and vertex.

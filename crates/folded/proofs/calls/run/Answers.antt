@@ -1,4 +1,4 @@
-use Rattle.std.proofs.Common.{◌*◌, refl, sym, ap, ◌∙◌}
+use Rattle.std.proofs.Common.{◌*◌, refl, sym, ap, ◌∙◌, rules}
 use Rattle.std.proofs.lemmas.Result.{err_from_is_err_and}
 use Rattle.refusals.proofs.Numbers.{refused-not-taken}
 use Rattle.states.specs.Answers.{seen_of, config_of}
@@ -22,4 +22,5 @@ pub returns : goal.returns
 returns c =
     let z = c.args in
     let e = work-number z.s z.after.now z.tail.now z.marks.now (6 * z.budget) z.events.now c.are_long-all.ensures c.in_ok-check_state.ensures in
-    c.drive.ensures ∙ ap seen_of (sym (run-taken (config_of z.s z.after.now z.tail.now z.marks.now) z.budget z.events.now e refl))
+    let p = c.drive.ensures.done ∙ ap seen_of (sym (run-taken (config_of z.s z.after.now z.tail.now z.marks.now) z.budget z.events.now e refl)) in
+    search (rules, p)

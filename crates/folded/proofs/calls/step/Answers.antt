@@ -1,4 +1,4 @@
-use Rattle.std.proofs.Common.{refl, sym, ap, ◌∙◌}
+use Rattle.std.proofs.Common.{refl, sym, ap, ◌∙◌, rules}
 use Rattle.std.proofs.lemmas.Result.{err_from_is_err_and}
 use Rattle.refusals.proofs.Numbers.{refused-not-taken}
 use Rattle.states.specs.Answers.{seen_of}
@@ -28,10 +28,12 @@ pub returns-in_default : goal.returns-in_default
 returns-in_default c =
     let z = c.args in
     let e = work-number z.s z.after.now z.tail.now z.marks.now 6 z.events.now c.are_long-all.ensures c.in_ok-check_state.ensures in
-    step-stuck z.s z.after.now z.tail.now z.marks.now z.events.now e (sym (c.is_over.ensures z.after.now z.tail.now z.marks.now) ∙ c.if-is_over.false) c.in_default.ensures
+    let p = step-stuck z.s z.after.now z.tail.now z.marks.now z.events.now e (sym (c.is_over.ensures z.after.now z.tail.now z.marks.now) ∙ c.if-is_over.false) c.in_default.ensures.left in
+    search (rules, p)
 
 pub returns : goal.returns
 returns c =
     let z = c.args in
     let e = work-number z.s z.after.now z.tail.now z.marks.now 6 z.events.now c.are_long-all.ensures c.in_ok-check_state.ensures in
-    step-taken z.s z.after.now z.tail.now z.marks.now z.events.now e (sym (c.is_over.ensures z.after.now z.tail.now z.marks.now) ∙ c.if-is_over.false) c.in-Some.next c.in-Some.ensures
+    let p = step-taken z.s z.after.now z.tail.now z.marks.now z.events.now e (sym (c.is_over.ensures z.after.now z.tail.now z.marks.now) ∙ c.if-is_over.false) c.in-Some.next c.in-Some.ensures.left in
+    search (rules, p)
