@@ -1,5 +1,6 @@
 // Breadth-first search of a linked image, folded into the links (the paper's list version): the after word of the last node of a list,
 // null at rest, leads on to the vertex that waits next. Every link is handed back as found.
+// Links are written, so n, m and the two areas are lent one by one; what only reads them is lent an `Image`.
 //
 // The public function takes any input at all: it is refused with its number of document 01 and
 // changes nothing, or it does its work. Document 01's element is a vertex here, its reference an edge.

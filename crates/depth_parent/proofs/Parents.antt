@@ -20,19 +20,19 @@ use Rattle.graphs.specs.Events.{event, label, advance_tree, advance_nontree, ret
 use Rattle.graphs.specs.Image.{Image, edges_of, to, graph_of}
 use Rattle.graphs.specs.Results.{last_tree, entry, parent_word, parent_left}
 use Rattle.graphs.specs.Claims.{Ready}
-use Rattle.graphs.specs.Refusals.{lent, unless_refused}
-use Rattle.graphs.proofs.Refusals.{long, refused}
+use Rattle.graphs.specs.Refusals.{lent}
+use Rattle.graphs.proofs.Refusals.{long}
 use Rattle.graphs.proofs.Sound.{head0, Linked, linked-rest, Sound}
 use Rattle.graphs.proofs.Places.{Frame, frame, entering, path, Above, of-rest}
 use Rattle.graphs.proofs.Room.{profile-ready}
 use Rattle.graphs.proofs.Trees.{AllTrees, all-trees}
-use Rattle.walks.specs.Promises.{Walked, walk_number, depth_walk, DepthPromise}
-use Rattle.walks.specs.Writing.{no_events, total}
+use Rattle.walks.specs.Promises.{walk_number}
+use Rattle.walks.specs.Writing.{total}
 use Rattle.depth_parent.specs.declared.Place.{Place}
 use Rattle.depth_parent.specs.Parents.{Entered, place, ParentAt, SomeParentAt, Goes, CanSearch, Ended}
 use Rattle.walks.specs.Moves.{Underway}
 use Rattle.walks.proofs.Reading.{target, target_is}
-use Rattle.walks.proofs.Begins.{begins, refused-promised, taken-promised}
+use Rattle.walks.proofs.Begins.{begins}
 use Rattle.walks.proofs.Storing.{all-cleared}
 use Rattle.walks.proofs.Writing.{Emits, Puts, Starts, held_test}
 use Rattle.walks.proofs.Moves as moves
@@ -397,31 +397,14 @@ module _ {g : Image} {start : ℕ} {marks parents events : List ℕ} {p : Place}
       → Bounds g p.v.0 marks parents × Edge g.n g.m p.f.0 × (get_or parents (p.v.0 - 1) 0 ≢ 0 → Edge g.n g.m (get_or parents (p.v.0 - 1) 0))
   retreat-reads z = (place-bounds z.0.is, retreat-edge z.0.is z.1 z.2, back-edge z.0.is z.1 z.2)
 
-pub some_at : {g : Image} {before : List ℕ} {start : ℕ} {marks₀ parents₀ events₀ marks parents events : List ℕ} {p : Place} → ParentAt g before start marks₀ parents₀ events₀ marks parents events p → SomeParentAt g start marks parents events p
-some_at {before = before} {marks₀ = marks₀} {parents₀ = parents₀} {events₀ = events₀} A = record { before = before; marks₀ = marks₀; parents₀ = parents₀; events₀ = events₀; is = A }
-
 pub goes_then : {g : Image} {start : ℕ} {marks parents events marks' parents' events' marks'' parents'' events'' : List ℕ} {p p' p'' : Place} → Goes g start marks parents events p marks' parents' events' p'
     → Goes g start marks' parents' events' p' marks'' parents'' events'' p''
     → Goes g start marks parents events p marks'' parents'' events'' p''
 goes_then k l before marks₀ parents₀ events₀ A = l before marks₀ parents₀ events₀ (k before marks₀ parents₀ events₀ A)
 
 -- ---- the walk
-module _ (g : Image) (before : List ℕ) (start : ℕ) (marks parents events : List ℕ) {k : ℕ} (is : k ≡ walk_number g before start marks events (lent g.n parents ∷ [])) where
-  -- What the walk leaves in the parent area.
-  abbrev Left : Walked → List ℕ → Type 0
-  Left r parents' = parents' ≡ unless_refused r.number (parent_left (graph_of g) (depth_walk g before start) parents) parents
-
-  -- A walk refused leaves all as it was.
-  pub walk_refused : {r : Walked} → (r.number ≡ k) × (r.tally ≡ no_events) → k ≢ 0 → DepthPromise g before start (lent g.n parents ∷ []) marks events r marks events × Left r parents
-  walk_refused {r} f ne = (refused-promised is ne f, refused r.number (parent_left (graph_of g) (depth_walk g before start) parents) parents (λ e. ne (sym f.0 ∙ e)))
-
-  -- A walk taken can begin.
-  pub walk_begins : k ≡ 0 → CanSearch g before start marks parents events
-  walk_begins z =
-      let B = begins g before start marks events (lent g.n parents ∷ []) (sym is ∙ z) in
-      record { sound = B.sound; start_vertex = B.start_vertex; listed = B.listed; roomy = B.depth-room; long = (long g.n parents [] B.own-long).0 }
-
-  -- And leaves what the search leaves.
-  pub walk_ends : {marks' parents' events' t : List ℕ} → k ≡ 0 → Ended g before start marks parents events marks' parents' events' t
-      → (let r : Walked = record { number = 0; tally = t } in DepthPromise g before start (lent g.n parents ∷ []) marks events r marks' events' × Left r parents')
-  walk_ends z E = (taken-promised (sym is ∙ z) refl E.held, E.parents_left)
+-- A walk taken can begin.
+pub walk_begins : (g : Image) (before : List ℕ) (start : ℕ) (marks parents events : List ℕ) → walk_number g before start marks events (lent g.n parents ∷ []) ≡ 0 → CanSearch g before start marks parents events
+walk_begins g before start marks parents events taken =
+    let B = begins g before start marks events (lent g.n parents ∷ []) taken in
+    record { sound = B.sound; start_vertex = B.start_vertex; listed = B.listed; roomy = B.depth-room; long = (long g.n parents [] B.own-long).0 }

@@ -3,6 +3,7 @@
 //
 // The public function takes any input at all: it is refused with its number of document 01 and
 // changes nothing, or it does its work. Document 01's element is a vertex here, its reference an edge.
+// The written areas are passed one by one: each contract says of every one of them what was lent and what is left.
 #![tactic(auto)]
 
 ghost use Rattle.std.specs.Prelude.{◌≡◌, ◌≢◌, [], ◌∷◌, ◌+◌, ◌≤◌};
@@ -20,7 +21,7 @@ use refusals::Refusal;
 use walks::{Kind, begin, check_walk, clear, emit, label};
 
 // The place that the search has come to: the vertex being scanned, the edge next to traverse, null where none is left, the tree edge into
-// that vertex, null for the start, and the tally.
+// that vertex, null for the start, and the tally. Both edges are words as the areas hold them, where 0 is null.
 #[derive(Clone, Copy)]
 pub(crate) struct Place {
     pub v: Vertex,

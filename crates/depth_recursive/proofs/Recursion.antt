@@ -1,7 +1,6 @@
 -- Laws of the recursive walker: what its loop over a list keeps, and what an edge traversed adds.
 -- The events so far, the edges still ahead and the scan make up the search of the vertex.
 use mathlib.Core.Path.{◌≡◌, refl, sym, ap, ◌∙◌, subst}
-use mathlib.Core.Logic.{◌≢◌}
 use mathlib.Core.Bool.{Bool, true, false, not}
 use mathlib.Core.List.{List, [], ◌∷◌}
 use Prim.Native.Nat.{ℕ, suc, ◌+◌, ◌-◌, ◌*◌, ◌≤◌, ◌<◌}
@@ -21,11 +20,11 @@ use Rattle.graphs.proofs.Labels.{Labels, label-ok, labels-few}
 use Rattle.graphs.proofs.Sound.{Sound, head0, Linked, edges_left, left-falls, graph-closed}
 use Rattle.graphs.proofs.DepthGrowth.{search-adds, search-labels}
 use Rattle.graphs.proofs.Places.{deep, walk, edges-add, suffix-length, can-search, deep-unroll}
-use Rattle.walks.specs.Promises.{Walked, walk_number, DepthPromise}
+use Rattle.walks.specs.Promises.{walk_number, DepthPromise}
 use Rattle.walks.specs.Writing.{no_events, blanks_marked, Held, Roomy}
 use Rattle.depth_recursive.specs.Recursive.{searched, crossed, Searching, CanSearch, Traversing, CanTraverse}
 use Rattle.walks.proofs.Reading.{target, target_is}
-use Rattle.walks.proofs.Begins.{begins, refused-promised, taken-promised}
+use Rattle.walks.proofs.Begins.{begins, taken-promised}
 use Rattle.walks.proofs.Storing.{all_first}
 use Rattle.walks.proofs.Writing.{Emits, Puts, held-labels, held_test, held-lengths, emitted, labelling, held_none}
 
@@ -290,32 +289,24 @@ module _ {g : Image} {before : List ℕ} {u : ℕ} {h : History} {marks₀ event
           }
 
 -- ---- the walk
-module _ (g : Image) (before : List ℕ) (start : ℕ) (marks events : List ℕ) {k : ℕ} (is : k ≡ walk_number g before start marks events []) where
-  -- A walk refused leaves all as it was.
-  pub walk_refused : {r : Walked} → (r.number ≡ k) × (r.tally ≡ no_events) → k ≢ 0 → DepthPromise g before start [] marks events r marks events
-  walk_refused f ne = refused-promised is ne f
+-- A walk taken.
+module _ (g : Image) (before : List ℕ) (start : ℕ) (marks events : List ℕ) (taken : walk_number g before start marks events [] ≡ 0) where
+  pub walk_begins : {marks' : List ℕ} → marks' ≡ blanks_marked (g.n + g.m) before marks → Searching g before start [] marks events marks' events no_events
+  unfolding depth_first
+  walk_begins c =
+      let B = begins g before start marks events [] taken in
+      let E = held_none (g.n + g.m) before marks events in
+      record {
+        sound = B.sound;
+        vertex = B.start_vertex;
+        fresh = B.listed.start_fresh;
+        labels = record { once = B.listed.once; all = B.listed.vertices };
+        held = record { marked = c ∙ all_first (g.n + g.m) before marks B.long_marks ∙ E.marked; written = E.written; counts = E.counts };
+        roomy = B.depth-room;
+      }
 
-  -- A walk taken.
-  module _ (z : k ≡ 0) where
-    taken : walk_number g before start marks events [] ≡ 0
-    taken = sym is ∙ z
-
-    pub walk_begins : {marks' : List ℕ} → marks' ≡ blanks_marked (g.n + g.m) before marks → Searching g before start [] marks events marks' events no_events
-    unfolding depth_first
-    walk_begins c =
-        let B = begins g before start marks events [] taken in
-        let E = held_none (g.n + g.m) before marks events in
-        record {
-          sound = B.sound;
-          vertex = B.start_vertex;
-          fresh = B.listed.start_fresh;
-          labels = record { once = B.listed.once; all = B.listed.vertices };
-          held = record { marked = c ∙ all_first (g.n + g.m) before marks B.long_marks ∙ E.marked; written = E.written; counts = E.counts };
-          roomy = B.depth-room;
-        }
-
-    -- The search of the start is the walk.
-    pub walk_ends : {marks' events' t : List ℕ} → Held (g.n + g.m) before (searched g before start []) marks events marks' events' t
-        → DepthPromise g before start [] marks events (record { number = 0; tally = t }) marks' events'
-    unfolding depth_first
-    walk_ends H = taken-promised taken refl H
+  -- The search of the start is the walk.
+  pub walk_ends : {marks' events' t : List ℕ} → Held (g.n + g.m) before (searched g before start []) marks events marks' events' t
+      → DepthPromise g before start [] marks events (record { number = 0; tally = t }) marks' events'
+  unfolding depth_first
+  walk_ends H = taken-promised taken refl H

@@ -3,6 +3,7 @@
 //
 // The public function takes any input at all: it is refused with its number of document 01 and
 // changes nothing, or it does its work. Document 01's element is a vertex here, its reference an edge.
+// The written areas are passed one by one: each contract says of every one of them what was lent and what is left.
 #![tactic(auto)]
 
 ghost use Rattle.std.specs.Prelude.{[]};
@@ -29,7 +30,7 @@ fn search_vertex(
     let mut t = label(marks, events, u, tally);
     let mut r = g.after[u.0 as usize - 1];
     while r != 0 {
-        // A local of its own: of a call in a cycle, a result that is laid in an array which lives on gets no proof.
+        // A local of its own: the proof does not close where the result of a call in a cycle goes straight into an array that is kept.
         let s = traverse_edge(g, Edge(r), u, marks, events, t);
         t = s;
         r = g.after[r as usize - 1];

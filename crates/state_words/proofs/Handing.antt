@@ -10,9 +10,9 @@ use Rattle.lists.specs.Words.{overlay}
 use Rattle.folding.specs.Calls as calls
 use Rattle.folding.specs.Calls.{Call, ran, taken, refused, refusing, area_of, serve, accept_number}
 use Rattle.states.specs.declared.values.State.{State}
-use Rattle.states.specs.declared.values.Answer.{Answer}
-use Rattle.states.specs.declared.values.Answer.TheVariants as answer
+use Rattle.states.specs.declared.values.Reason.{Reason}
 use Rattle.states.specs.Answers.{answer_of, config_of, Seen, seen_of}
+use Rattle.std.specs.Prelude.{Option, Some, None}
 use Rattle.panel.specs.declared.Panel.{Panel}
 use Rattle.panel.specs.Panel.{Counted}
 use Rattle.panel.specs.Panel.{counted_by, accepted_of}
@@ -49,12 +49,11 @@ module _ (steps made reason : ℕ) (state : List ℕ) where
   pub seen-handed : {s : Seen} (q : calls.Reply) → s ≡ seen_of q → handed_seen s.answer s steps made reason state ≡ handed q steps made reason state
   seen-handed q e = ap (λ (s : Seen). handed_seen s.answer s steps made reason state) e ∙ by_answer q.answer q
 
-  -- Of an answer that is none of a refusal, as the code tests it.
-  pub seen-taken : (a : Answer) (s : Seen) → ((k : ℕ) → a ≡ answer.Refused k → ⊥)
-      → handing 0 s.steps s.count (reason_in (answer_of a)) (overlay (config_words s.config) state) s.config.after s.config.tail s.config.marks s.area ≡ handed_seen (answer_of a) s steps made reason state
-  seen-taken (answer.Ran why) s h = refl
-  seen-taken answer.Taken s h = refl
-  seen-taken (answer.Refused k) s h = absurd (h k refl)
+  -- Of a call that is taken.
+  pub seen-taken : (why : Option Reason) (s : Seen)
+      → handing 0 s.steps s.count (reason_in (answer_of why)) (overlay (config_words s.config) state) s.config.after s.config.tail s.config.marks s.area ≡ handed_seen (answer_of why) s steps made reason state
+  seen-taken (Some why) s = refl
+  seen-taken None s = refl
 
 -- ---- accepting
 module _ (figure : ℕ) (state : List ℕ) where

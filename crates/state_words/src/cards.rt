@@ -17,8 +17,9 @@ pub fn accept_in_words(state: &mut [u16], figure: &mut u32) -> u16
     if state.len() < 9 {
         return 3;
     }
+    let s = read_state(state);
     let p = Panel { figure: *figure };
-    match count_card(p, read_state(state)) {
+    match count_card(p, s) {
         Err(refusal) => refusal.number(),
         Ok(c) => {
             *figure = c.panel.figure;

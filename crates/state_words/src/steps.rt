@@ -2,6 +2,7 @@
 ghost use Rattle.std.specs.Prelude.{◌≡◌, List, ℕ, ◌≤◌, length};
 ghost use Rattle.lists.specs.Words.{overlay};
 ghost use Rattle.graphs.specs.Refusals.{unless_refused};
+ghost use Rattle.folding.specs.Machine.{Config};
 ghost use Rattle.folding.specs.Calls as calls;
 ghost use Rattle.folding.specs.Calls.{run_for, single, roll_back, opened_at, open_reply};
 ghost use Rattle.images.specs.Checking.{image};
@@ -35,13 +36,11 @@ pub fn open_in_words(
     if state.len() < 9 {
         return number(check_search(&g, before, Vertex(start), false));
     }
-    match open(&g, before, Vertex(start), marks, events) {
-        Err(refusal) => refusal.number(),
-        Ok(r) => {
-            write_state(r.state, state);
-            0
-        }
+    let r = open(&g, before, Vertex(start), marks, events);
+    if let Ok(reply) = r {
+        write_state(reply.state, state);
     }
+    number(r)
 }
 
 // Hands a reply back: of a call that is taken, the steps made, the events written, the reason and the state; of a refused one its number.
@@ -53,7 +52,7 @@ fn hand_back(
     reason: &mut u16,
 ) -> u16
     requires { 9 ≤ length state.old }
-    ensures { (q : calls.Reply) (after tail marks area : List ℕ) → told r after tail marks area ≡ seen_of q → handing result steps.new made.new reason.new state.new after tail marks area ≡ handed q steps.old made.old reason.old state.old }
+    ensures { (q : calls.Reply) (kept : Config) (area : List ℕ) → told reply kept area ≡ seen_of q → handing result steps.new made.new reason.new state.new kept.after kept.tail kept.marks area ≡ handed q steps.old made.old reason.old state.old }
 {
     match reply {
         Err(refusal) => refusal.number(),

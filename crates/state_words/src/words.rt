@@ -2,7 +2,7 @@
 ghost use Rattle.std.specs.Prelude.{◌≡◌, ◌≤◌, length};
 ghost use Rattle.lists.specs.Words.{overlay};
 ghost use Rattle.states.specs.Answers.{answer_of};
-ghost use Rattle.state_words.specs.Handed.{state_in, state_words, number_in, reason_in};
+ghost use Rattle.state_words.specs.Handed.{state_in, state_words, reason_in};
 
 use images::{Edge, Vertex};
 use walkers::{Reason, State};
@@ -37,7 +37,7 @@ pub(crate) fn write_state(s: State, words: &mut [u16])
 
 // The number of a run's reason: 1 ended, 2 spent, 3 stuck; 0 of any other call.
 pub(crate) fn reason_in(why: Option<Reason>) -> u16
-    ensures { result ≡ reason_of why }
+    ensures { result ≡ reason_in (answer_of why) }
 {
     match why {
         Some(reason) => reason as u16,

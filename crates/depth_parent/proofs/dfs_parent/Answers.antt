@@ -1,6 +1,5 @@
--- The walk gives its number, and leaves what the search leaves where that is 0.
 -- The number is asked first, on areas that are only read; where it is 0 the search can begin.
-use Rattle.std.proofs.Common.{[], ◌∷◌, refl}
+use Rattle.std.proofs.Common.{[], ◌∷◌, sym}
 use Rattle.graphs.specs.Refusals.{lent}
 use Rattle.images.specs.Checking.{image_of}
 use Rattle.walks.proofs.Numbers.{own-test}
@@ -10,5 +9,5 @@ use Rattle.depth_parent.proofs.dfs_parent.Goals as goal
 pub search-requires : goal.search-requires
 search-requires c =
     let a = c.args in
-    let is = c.in_ok-check_walk.ensures (lent a.g.now.n a.parents.now ∷ []) (own-test a.g.now.n a.parents.now) in
-    walk_begins (image_of a.g.now) a.before.now a.start.0 a.marks.now a.parents.now a.events.now is refl
+    let taken = sym (c.in_ok-check_walk.ensures (lent a.g.now.n a.parents.now ∷ []) (own-test a.g.now.n a.parents.now)) in
+    walk_begins (image_of a.g.now) a.before.now a.start.0 a.marks.now a.parents.now a.events.now taken

@@ -14,5 +14,5 @@ pub returns : goal.returns
 returns c =
     let z = c.args in
     let s = c.run-r in
-    c.hand_back.ensures (served_in z.state.now z.after.now z.tail.now z.marks.now (run_for z.budget z.events.now)) s.new.after s.new.tail s.new.marks s.new.events
+    c.hand_back.ensures (served_in z.state.now z.after.now z.tail.now z.marks.now (run_for z.budget z.events.now)) (config_of (state_in z.state.now) s.new.after s.new.tail s.new.marks) s.new.events
     (s.ensures ∙ seen-served z.state.now z.after.now z.tail.now z.marks.now (run_for z.budget z.events.now) c.if-state-lt9.false c.read_state-s.ensures)
