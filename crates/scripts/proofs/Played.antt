@@ -1,14 +1,14 @@
 -- A line under a script: each call on the part of the event area that it is lent, and the script's calls one after the other.
 -- What a call leaves in its part stands behind the events so far; put back, the area begins with the events of all.
 use mathlib.Core.Path.{◌≡◌, refl, sym, ap, ◌∙◌, subst}
-use mathlib.Core.Logic.{◌≢◌}
 use mathlib.Core.Bool.{Bool, true, false, cond}
 use mathlib.Core.List.{List, [], ◌∷◌, ◌++◌, append_assoc}
 use Prim.Native.Nat.{ℕ, zero, suc, ◌+◌, ◌-◌, ◌*◌, ◌≤◌, ◌<◌, min}
 use native.Mathlib.Omega.{arith}
+use Rattle.std.specs.Prelude.{Option, Some, None, Result, Ok, Err}
 use lib.Dec.{eqb, leb}
 use lib.ListN.{length, get_or, take, drop, length-append, length-drop, take-append-drop}
-use lib.Seq.{take_all, take-append_seam, drop-append-le, drop-drop, drop-cons}
+use lib.Seq.{take_all, take-append_seam, drop-append-le, drop-drop}
 use borrow.Author.Tests.{leb-true, leb-false, ne_eqb}
 use borrow.Rule.Slice.PartMut.{mid_of, put_mid}
 use Rattle.lists.specs.Words.{overlay}
@@ -18,14 +18,20 @@ use Rattle.graphs.specs.Image.{Image}
 use Rattle.graphs.proofs.Room.{words-length}
 use Rattle.walks.proofs.Events.{words_append}
 use Rattle.folding.specs.Machine.{Config}
-use Rattle.folding.specs.Calls.{unless, Call, run_for, single, roll_back, area_of, serve, open_number, unopened, open_reply, opening}
+use Rattle.folding.specs.Calls.{refused, refusing, unless, Call, run_for, single, roll_back, area_of, serve, open_number, unopened, open_reply, opening}
 use Rattle.folding.specs.Lines.{Line, noted, calls, begun, line_b, folded}
 use Rattle.folding.specs.Claims.{Confined}
 use Rattle.folding.proofs.AnyInput.{demand1}
 use Rattle.folding.proofs.Totals.{steps-few, events-few}
 use Rattle.states.specs.declared.values.Reply.{Reply}
-use Rattle.states.specs.Answers.{Seen, config_of, seen_of, told}
-use Rattle.scripts.specs.Script.{lent_to, called_by, scripted, replayed, seen_line, Playing}
+use Rattle.states.specs.declared.values.Reason.{Reason}
+use Rattle.states.specs.Answers.{Seen, answer_of, config_of, seen_of, told, told_taken}
+use Rattle.refusals.specs.declared.Refusal.{Refusal}
+use Rattle.refusals.specs.Numbers.{number_of}
+use Rattle.scripts.specs.Script.{lent_to, called_by, called, scripted, replayed, seen_line, told_line, steps_in, events_in, after_call, Playing}
+use Rattle.scripts.specs.declared.order.Order.{Order}
+use Rattle.scripts.specs.declared.order.Order.TheVariants.{Run, Step, RollBack}
+use Rattle.scripts.specs.declared.play.Replayed.{Replayed}
 
 -- ---- areas
 -- As many as asked for, or what there is.
@@ -48,11 +54,29 @@ put-behind ws vs area k h =
     ∙ ap (λ (j : ℕ). (ws ++ vs) ++ drop j area) (sym (length-append ws vs))
 
 -- ---- one call more
--- The line after one call, as the code notes it.
-abbrev pub after_call : Reply → Reply → Reply
-after_call p r = record { answer = r.answer; steps = p.steps + r.steps; events = p.events + r.events; state = r.state }
+-- What is seen once a call is noted, from what is seen of the call.
+noted-told : (p : Replayed) (a : Result Reply Refusal) (after tail marks part area : List ℕ) → told_line (after_call p a) after tail marks area
+    ≡ record { answer = (told a (config_of p.state after tail marks) part).answer; steps = p.steps + (told a (config_of p.state after tail marks) part).steps; count = p.events + (told a (config_of p.state after tail marks) part).count; config = (told a (config_of p.state after tail marks) part).config; area = area }
+noted-told p (Ok r) after tail marks part area = refl
+noted-told p (Err k) after tail marks part area =
+    let steps : p.steps ≡ p.steps + 0 = omega arith in
+    let events : p.events ≡ p.events + 0 = omega arith in
+    λ i. record { answer = refused (number_of k); steps = steps i; count = events i; config = config_of p.state after tail marks; area = area }
 
-module _ (p : Reply) (after tail marks now area : List ℕ) (l : Line) (e : told p after tail marks now ≡ seen_line area l) where
+-- The steps and the events of a call are those that are seen of it.
+steps-told : (a : Result Reply Refusal) (kept : Config) (area : List ℕ) → steps_in a ≡ (told a kept area).steps
+steps-told (Ok r) kept area = refl
+steps-told (Err k) kept area = refl
+
+events-told : (a : Result Reply Refusal) (kept : Config) (area : List ℕ) → events_in a ≡ (told a kept area).count
+events-told (Ok r) kept area = refl
+events-told (Err k) kept area = refl
+
+part-told : (a : Result Reply Refusal) (kept : Config) (area : List ℕ) → area ≡ (told a kept area).area
+part-told (Ok r) kept area = refl
+part-told (Err k) kept area = refl
+
+module _ (p : Replayed) (after tail marks now area : List ℕ) (l : Line) (e : told_line p after tail marks now ≡ seen_line area l) where
   config-is : config_of p.state after tail marks ≡ l.config
   config-is = ap (λ (s : Seen). s.config) e
 
@@ -70,8 +94,8 @@ module _ (p : Reply) (after tail marks now area : List ℕ) (l : Line) (e : told
   past = (λ i. drop (sym from_is i) (now-is i)) ∙ overlay-past (words l.events) area
 
   -- The part that a call is lent.
-  part-is : (room to : ℕ) → to ≡ 3 * p.events + min room (length now - 3 * p.events) → mid_of (3 * p.events) (to - 3 * p.events) now ≡ lent_to area l room
-  part-is room to h = take-least (to - 3 * p.events) room (drop (3 * p.events) now) (omega (arith, length-drop (3 * p.events) now)) ∙ ap (take room) past
+  part-is : (room k : ℕ) → k ≡ min room (length now - 3 * p.events) → mid_of (3 * p.events) k now ≡ lent_to area l room
+  part-is room k h = take-least k room (drop (3 * p.events) now) (omega (arith, length-drop (3 * p.events) now)) ∙ ap (take room) past
 
   -- The part put back, with the call's events in front of it.
   area-is : (part : List ℕ) (k : ℕ) (fs : List Event) → part ≡ overlay (words fs) (mid_of (3 * p.events) k now) → length (words fs) ≤ length (mid_of (3 * p.events) k now) → put_mid (3 * p.events) k now part ≡ overlay (words (l.events ++ fs)) area
@@ -82,56 +106,64 @@ module _ (p : Reply) (after tail marks now area : List ℕ) (l : Line) (e : told
       ∙ ap (λ (ws : List ℕ). overlay ws area) (sym (words_append l.events fs))
 
   -- The line after a call on a part: the part is put back.
-  call-seen : (r : Reply) (after' tail' marks' part : List ℕ) (k : ℕ) (c : Call) → area_of c ≡ mid_of (3 * p.events) k now → told r after' tail' marks' part ≡ seen_of (serve l.config c)
-      → told (after_call p r) after' tail' marks' (put_mid (3 * p.events) k now part) ≡ seen_line area (noted l c (serve l.config c))
+  call-seen : (r : Result Reply Refusal) (after' tail' marks' part : List ℕ) (k : ℕ) (c : Call) → area_of c ≡ mid_of (3 * p.events) k now → told r (config_of p.state after' tail' marks') part ≡ seen_of (serve l.config c)
+      → told_line (after_call p r) after' tail' marks' (put_mid (3 * p.events) k now part) ≡ seen_line area (noted l c (serve l.config c))
   call-seen r after' tail' marks' part k c a h =
       let C : Confined l.config (area_of c) (serve l.config c) = demand1.call_confined l.config c in
       let fs : List Event = (serve l.config c).events in
-      let count : p.events + r.events ≡ length (l.events ++ fs) = (λ i. (e i).count + (h i).count) ∙ sym (length-append l.events fs) in
-      let put : put_mid (3 * p.events) k now part ≡ overlay (words (l.events ++ fs)) area = area-is part k fs ((λ i. (h i).area) ∙ C.told ∙ ap (overlay (words fs)) a) (omega (arith, C.fits, ap length a)) in
-      λ i. record { answer = (h i).answer; steps = (e i).steps + (h i).steps; count = count i; config = (h i).config; area = put i }
+      let count : p.events + length fs ≡ length (l.events ++ fs) = ap (λ (s : Seen). s.count + length fs) e ∙ sym (length-append l.events fs) in
+      let left : part ≡ (serve l.config c).area = part-told r (config_of p.state after' tail' marks') part ∙ ap (λ (s : Seen). s.area) h in
+      let put : put_mid (3 * p.events) k now part ≡ overlay (words (l.events ++ fs)) area = area-is part k fs (left ∙ C.told ∙ ap (overlay (words fs)) a) (omega (arith, C.fits, ap length a)) in
+      noted-told p r after' tail' marks' part (put_mid (3 * p.events) k now part)
+      ∙ ap (λ (s : Seen). record { answer = s.answer; steps = p.steps + s.steps; count = p.events + s.count; config = s.config; area = put_mid (3 * p.events) k now part }) h
+      ∙ (λ i. record { answer = (serve l.config c).answer; steps = (e i).steps + (serve l.config c).steps; count = count i; config = (serve l.config c).config; area = put i })
 
   -- A call that is lent as many words as the script says, or what is left.
-  lent-more : (room to : ℕ) (q r : Reply) (after' tail' marks' part : List ℕ) (c : List ℕ → Call) → ((x : List ℕ) → area_of (c x) ≡ x) → to ≡ 3 * p.events + min room (length now - 3 * p.events) → q ≡ after_call p r
-      → told r after' tail' marks' part ≡ seen_of (serve (config_of p.state after tail marks) (c (mid_of (3 * p.events) (to - 3 * p.events) now)))
-      → told q after' tail' marks' (put_mid (3 * p.events) (to - 3 * p.events) now part) ≡ seen_line area (calls folded l (c (lent_to area l room) ∷ []))
+  lent-more : (room k : ℕ) (r : Result Reply Refusal) (after' tail' marks' part : List ℕ) (c : List ℕ → Call) → ((x : List ℕ) → area_of (c x) ≡ x) → k ≡ min room (length now - 3 * p.events)
+      → told r (config_of p.state after' tail' marks') part ≡ seen_of (serve (config_of p.state after tail marks) (c (mid_of (3 * p.events) k now)))
+      → told_line (after_call p r) after' tail' marks' (put_mid (3 * p.events) k now part) ≡ seen_line area (calls folded l (c (lent_to area l room) ∷ []))
   unfolding calls
-  lent-more room to q r after' tail' marks' part c own is-to is-q h =
-      let lent : mid_of (3 * p.events) (to - 3 * p.events) now ≡ lent_to area l room = part-is room to is-to in
-      ap (λ (x : Reply). told x after' tail' marks' (put_mid (3 * p.events) (to - 3 * p.events) now part)) is-q
-      ∙ call-seen r after' tail' marks' part (to - 3 * p.events) (c (lent_to area l room)) (own (lent_to area l room) ∙ sym lent) (h ∙ (λ i. seen_of (serve (config-is i) (c (lent i)))))
+  lent-more room k r after' tail' marks' part c own is h =
+      let lent : mid_of (3 * p.events) k now ≡ lent_to area l room = part-is room k is in
+      call-seen r after' tail' marks' part k (c (lent_to area l room)) (own (lent_to area l room) ∙ sym lent) (h ∙ (λ i. seen_of (serve (config-is i) (c (lent i)))))
 
-  -- What is seen is the line after the call that a word names.
-  abbrev SeenBy : ℕ → ℕ → ℕ → Seen → Type 0
-  SeenBy call budget room s = s ≡ seen_line area (calls folded l (called_by call budget (lent_to area l room)))
+  -- What is seen is the line after the call that the code names.
+  abbrev SeenBy : Option Order → ℕ → ℕ → Seen → Type 0
+  SeenBy order budget room s = s ≡ seen_line area (calls folded l (called order budget (lent_to area l room)))
 
-  by_name : (call k budget room : ℕ) → call ≡ k → seen_line area (calls folded l (called_by k budget (lent_to area l room))) ≡ seen_line area (calls folded l (called_by call budget (lent_to area l room)))
-  by_name call k budget room e = ap (λ (j : ℕ). seen_line area (calls folded l (called_by j budget (lent_to area l room)))) (sym e)
+  by_name : {order : Option Order} (o : Option Order) (budget room : ℕ) {s : Seen} → order ≡ o → SeenBy o budget room s → SeenBy order budget room s
+  by_name o budget room e h = h ∙ ap (λ (x : Option Order). seen_line area (calls folded l (called x budget (lent_to area l room)))) (sym e)
 
-  pub run_more : (call budget room to : ℕ) (q r : Reply) (after' tail' marks' part : List ℕ) → call ≡ 1 → to ≡ 3 * p.events + min room (length now - 3 * p.events) → q ≡ after_call p r
-      → told r after' tail' marks' part ≡ seen_of (serve (config_of p.state after tail marks) (run_for budget (mid_of (3 * p.events) (to - 3 * p.events) now)))
-      → SeenBy call budget room (told q after' tail' marks' (put_mid (3 * p.events) (to - 3 * p.events) now part))
-  run_more call budget room to q r after' tail' marks' part one is-to is-q h = lent-more room to q r after' tail' marks' part (run_for budget) (λ x. refl) is-to is-q h ∙ by_name call 1 budget room one
+  pub run_more : {order : Option Order} (budget room k : ℕ) {q : Replayed} (r : Result Reply Refusal) (after' tail' marks' part : List ℕ) → order ≡ Some Run → k ≡ min room (length now - 3 * p.events) → q ≡ after_call p r
+      → told r (config_of p.state after' tail' marks') part ≡ seen_of (serve (config_of p.state after tail marks) (run_for budget (mid_of (3 * p.events) k now)))
+      → SeenBy order budget room (told_line q after' tail' marks' (put_mid (3 * p.events) k now part))
+  run_more budget room k r after' tail' marks' part o is is-q h =
+      by_name (Some Run) budget room o
+      (ap (λ (x : Replayed). told_line x after' tail' marks' (put_mid (3 * p.events) k now part)) is-q
+      ∙ lent-more room k r after' tail' marks' part (run_for budget) (λ x. refl) is h)
 
-  pub step-more : (call budget room to : ℕ) (q r : Reply) (after' tail' marks' part : List ℕ) → call ≡ 2 → to ≡ 3 * p.events + min room (length now - 3 * p.events) → q ≡ after_call p r
-      → told r after' tail' marks' part ≡ seen_of (serve (config_of p.state after tail marks) (single (mid_of (3 * p.events) (to - 3 * p.events) now)))
-      → SeenBy call budget room (told q after' tail' marks' (put_mid (3 * p.events) (to - 3 * p.events) now part))
-  step-more call budget room to q r after' tail' marks' part two is-to is-q h = lent-more room to q r after' tail' marks' part single (λ x. refl) is-to is-q h ∙ by_name call 2 budget room two
+  pub step-more : {order : Option Order} (budget room k : ℕ) {q : Replayed} (r : Result Reply Refusal) (after' tail' marks' part : List ℕ) → order ≡ Some Step → k ≡ min room (length now - 3 * p.events) → q ≡ after_call p r
+      → told r (config_of p.state after' tail' marks') part ≡ seen_of (serve (config_of p.state after tail marks) (single (mid_of (3 * p.events) k now)))
+      → SeenBy order budget room (told_line q after' tail' marks' (put_mid (3 * p.events) k now part))
+  step-more budget room k r after' tail' marks' part o is is-q h =
+      by_name (Some Step) budget room o
+      (ap (λ (x : Replayed). told_line x after' tail' marks' (put_mid (3 * p.events) k now part)) is-q
+      ∙ lent-more room k r after' tail' marks' part single (λ x. refl) is h)
 
   -- A roll-back order is lent no area.
-  pub order-more : (call budget room : ℕ) (q r : Reply) → call ≡ 3 → q ≡ after_call p r → told r after tail marks [] ≡ seen_of (serve (config_of p.state after tail marks) roll_back) → SeenBy call budget room (told q after tail marks now)
+  pub order-more : {order : Option Order} (budget room : ℕ) {q : Replayed} (r : Result Reply Refusal) → order ≡ Some RollBack → q ≡ after_call p r
+      → told r (config_of p.state after tail marks) [] ≡ seen_of (serve (config_of p.state after tail marks) roll_back)
+      → SeenBy order budget room (told_line q after tail marks now)
   unfolding calls
-  order-more call budget room q r three is-q h =
-      (λ i. told (is-q i) after tail marks (sym (take-append-drop (3 * p.events) now) i))
-      ∙ call-seen r after tail marks [] 0 roll_back refl (h ∙ (λ i. seen_of (serve (config-is i) roll_back)))
-      ∙ by_name call 3 budget room three
+  order-more budget room r o is-q h =
+      by_name (Some RollBack) budget room o
+      ((λ i. told_line (is-q i) after tail marks (sym (take-append-drop (3 * p.events) now) i))
+      ∙ call-seen r after tail marks [] 0 roll_back refl (h ∙ (λ i. seen_of (serve (config-is i) roll_back))))
 
-  -- Any other word names no call.
-  pub none_more : (call budget room : ℕ) → call ≢ 1 → call ≢ 2 → call ≢ 3 → SeenBy call budget room (told p after tail marks now)
+  -- No call is named.
+  pub none_more : {order : Option Order} (budget room : ℕ) → order ≡ None → SeenBy order budget room (told_line p after tail marks now)
   unfolding calls
-  none_more call budget room a b d =
-      let x : List ℕ = lent_to area l room in
-      e ∙ ap (λ (cs : List Call). seen_line area (calls folded l cs)) (λ i. cond (sym (ne_eqb call 1 a) i) (run_for budget x ∷ []) (cond (sym (ne_eqb call 2 b) i) (single x ∷ []) (cond (sym (ne_eqb call 3 d) i) (roll_back ∷ []) [])))
+  none_more budget room o = by_name None budget room o e
 
 -- ---- few steps and events
 calls-append : (l : Line) (cs ds : List Call) → calls folded l (cs ++ ds) ≡ calls folded (calls folded l cs) ds
@@ -146,18 +178,19 @@ line-few g before start marks area h cs c l e =
     let more : line_b folded g before start marks area (cs ++ (c ∷ [])) ≡ noted l c (serve l.config c) = calls-append (begun (opening g before start marks area)) cs (c ∷ []) ∙ ap (λ (x : Line). noted x c (serve x.config c)) (sym e) in
     (subst (λ (x : Line). x.steps ≤ 14000) more (steps-few g before start marks area h (cs ++ (c ∷ []))), subst (λ (x : Line). length x.events ≤ 10000) more (events-few g before start marks area h (cs ++ (c ∷ []))))
 
-module _ {p : Reply} {after tail marks now : List ℕ} (P : Playing p after tail marks now) where
+module _ {p : Replayed} {after tail marks now : List ℕ} (P : Playing p after tail marks now) where
   -- The words of the events so far are in the area.
   pub from_low : 3 * p.events ≤ length now
   from_low = from_in p after tail marks now P.area₀ (line_b folded P.image P.before P.start P.marks₀ P.area₀ P.list) P.line
 
-  pub few : (r : Reply) (after' tail' marks' part : List ℕ) (c : Call) → told r after' tail' marks' part ≡ seen_of (serve (config_of p.state after tail marks) c) → (p.steps + r.steps ≤ 4294967295) × (p.events + r.events ≤ 4294967295)
+  pub few : (r : Result Reply Refusal) (after' tail' marks' part : List ℕ) (c : Call) → told r (config_of p.state after' tail' marks') part ≡ seen_of (serve (config_of p.state after tail marks) c) → (p.steps + steps_in r ≤ 4294967295) × (p.events + events_in r ≤ 4294967295)
   few r after' tail' marks' part c h =
       let l : Line = line_b folded P.image P.before P.start P.marks₀ P.area₀ P.list in
       let F = line-few P.image P.before P.start P.marks₀ P.area₀ P.opened P.list c l refl in
       let k = ap (λ (w : Config). seen_of (serve w c)) (ap (λ (s : Seen). s.config) P.line) in
-      let steps : r.steps ≡ (serve l.config c).steps = ap (λ (s : Seen). s.steps) (h ∙ k) in
-      let made : r.events ≡ length (serve l.config c).events = ap (λ (s : Seen). s.count) (h ∙ k) in
+      let kept = config_of p.state after' tail' marks' in
+      let steps : steps_in r ≡ (serve l.config c).steps = steps-told r kept part ∙ ap (λ (s : Seen). s.steps) (h ∙ k) in
+      let made : events_in r ≡ length (serve l.config c).events = events-told r kept part ∙ ap (λ (s : Seen). s.count) (h ∙ k) in
       let a : p.steps ≡ l.steps = ap (λ (s : Seen). s.steps) P.line in
       let b : p.events ≡ length l.events = ap (λ (s : Seen). s.count) P.line in
       let j = length-append l.events (serve l.config c).events in
@@ -171,54 +204,57 @@ scripted-short l area (call ∷ budget ∷ []) h = refl
 scripted-short l area (call ∷ []) h = refl
 scripted-short l area [] h = refl
 
-next-three : (script : List ℕ) (at : ℕ) → 3 ≤ length script - at → drop at script ≡ get_or script at 0 ∷ get_or script (at + 1) 0 ∷ get_or script (at + 2) 0 ∷ drop (at + 3) script
-next-three script at h =
-    let a : suc at ≡ at + 1 = omega arith in
-    let b : suc (at + 1) ≡ at + 2 = omega arith in
-    let d : suc (at + 2) ≡ at + 3 = omega arith in
-    drop-cons script at 0 (omega arith)
-    ∙ ap (λ (s : List ℕ). get_or script at 0 ∷ s)
-    (ap (λ (j : ℕ). drop j script) a ∙ drop-cons script (at + 1) 0 (omega arith)
-    ∙ ap (λ (s : List ℕ). get_or script (at + 1) 0 ∷ s) (ap (λ (j : ℕ). drop j script) b ∙ drop-cons script (at + 2) 0 (omega arith) ∙ ap (λ (j : ℕ). get_or script (at + 2) 0 ∷ drop j script) d))
+next-three : (script : List ℕ) → 3 ≤ length script → script ≡ get_or script 0 0 ∷ get_or script 1 0 ∷ get_or script 2 0 ∷ drop 3 script
+next-three (call ∷ budget ∷ room ∷ rest) h = refl
+next-three (call ∷ budget ∷ []) h = absurd (omega arith)
+next-three (call ∷ []) h = absurd (omega arith)
+next-three [] h = absurd (omega arith)
 
--- A script performed up to a place: the calls so far, and what those that are left lead to.
-pub record Played (g : Image) (before : List ℕ) (start : ℕ) (old area script : List ℕ) (at : ℕ) (p : Reply) (after tail marks now : List ℕ) : Type 0 where
+-- A script performed in part: the calls so far, and what the words that are left lead to.
+pub record Played (g : Image) (before : List ℕ) (start : ℕ) (old area script left : List ℕ) (p : Replayed) (after tail marks now : List ℕ) : Type 0 where
   pub opened : open_number g before start old area ≡ 0
   pub list : List Call
-  pub line : told p after tail marks now ≡ seen_line area (line_b folded g before start old area list)
-  pub rest : replayed g before start old area script ≡ calls folded (line_b folded g before start old area list) (scripted (line_b folded g before start old area list) area (drop at script))
+  pub line : told_line p after tail marks now ≡ seen_line area (line_b folded g before start old area list)
+  pub rest : replayed g before start old area script ≡ calls folded (line_b folded g before start old area list) (scripted (line_b folded g before start old area list) area left)
 
-module _ {g : Image} {before : List ℕ} {start : ℕ} {old area script : List ℕ} {at : ℕ} {p : Reply} {after tail marks now : List ℕ} (P : Played g before start old area script at p after tail marks now) where
+module _ {g : Image} {before : List ℕ} {start : ℕ} {old area script left : List ℕ} {p : Replayed} {after tail marks now : List ℕ} (P : Played g before start old area script left p after tail marks now) where
   pub playing : Playing p after tail marks now
   playing = record { image = g; before = before; start = start; marks₀ = old; area₀ = area; list = P.list; opened = P.opened; line = P.line }
 
   -- The next three words.
-  pub next-played : {q : Reply} {after' tail' marks' now' : List ℕ} → 3 ≤ length script - at
-      → ((area : List ℕ) (l : Line) → told p after tail marks now ≡ seen_line area l → told q after' tail' marks' now' ≡ seen_line area (calls folded l (called_by (get_or script at 0) (get_or script (at + 1) 0) (lent_to area l (get_or script (at + 2) 0)))))
-      → Played g before start old area script (at + 3) q after' tail' marks' now'
+  pub next-played : (order : Option Order) {others : List ℕ} {q : Replayed} {after' tail' marks' now' : List ℕ} → 3 ≤ length left → others ≡ drop 3 left
+      → ((budget : ℕ) (lent : List ℕ) → called_by (get_or left 0 0) budget lent ≡ called order budget lent)
+      → ((area : List ℕ) (l : Line) → told_line p after tail marks now ≡ seen_line area l → told_line q after' tail' marks' now' ≡ seen_line area (calls folded l (called order (get_or left 1 0) (lent_to area l (get_or left 2 0)))))
+      → Played g before start old area script others q after' tail' marks' now'
   unfolding scripted
-  next-played h f =
+  next-played order {others = others} h is named f =
       let l : Line = line_b folded g before start old area P.list in
-      let new : List Call = called_by (get_or script at 0) (get_or script (at + 1) 0) (lent_to area l (get_or script (at + 2) 0)) in
+      let new : List Call = called_by (get_or left 0 0) (get_or left 1 0) (lent_to area l (get_or left 2 0)) in
       let more = sym (calls-append (begun (opening g before start old area)) P.list new) in
       record {
         opened = P.opened;
         list = P.list ++ new;
-        line = f area l P.line ∙ ap (seen_line area) more;
+        line = f area l P.line ∙ ap (λ (cs : List Call). seen_line area (calls folded l cs)) (sym (named (get_or left 1 0) (lent_to area l (get_or left 2 0)))) ∙ ap (seen_line area) more;
         rest = P.rest
-            ∙ ap (λ (s : List ℕ). calls folded l (scripted l area s)) (next-three script at h)
-            ∙ calls-append l new (scripted (calls folded l new) area (drop (at + 3) script))
-            ∙ ap (λ (x : Line). calls folded x (scripted x area (drop (at + 3) script))) more;
+            ∙ ap (λ (s : List ℕ). calls folded l (scripted l area s)) (next-three left h)
+            ∙ ap (λ (s : List ℕ). calls folded l (new ++ scripted (calls folded l new) area s)) (sym is)
+            ∙ calls-append l new (scripted (calls folded l new) area others)
+            ∙ ap (λ (x : Line). calls folded x (scripted x area others)) more;
       }
 
   -- Fewer than three words are left.
-  pub last-played : length script - at < 3 → told p after tail marks now ≡ seen_line area (replayed g before start old area script)
+  pub last-played : length left < 3 → told_line p after tail marks now ≡ seen_line area (replayed g before start old area script)
   unfolding calls
   last-played h =
       let l : Line = line_b folded g before start old area P.list in
-      P.line ∙ ap (seen_line area) (sym (P.rest ∙ ap (calls folded l) (scripted-short l area (drop at script) (omega (arith, length-drop at script)))))
+      P.line ∙ ap (seen_line area) (sym (P.rest ∙ ap (calls folded l) (scripted-short l area left h)))
 
 -- ---- the opening
+-- A call that is taken is not refused.
+not-both : (why : Option Reason) (k : ℕ) → answer_of why ≡ refused k → ⊥
+not-both None k e = cc
+not-both (Some why) k e = cc
+
 module _ (g : Image) (before : List ℕ) (start : ℕ) (old area script : List ℕ) where
   -- An opening writes its events in front of its area.
   opening-seen : seen_of (opening g before start old area) ≡ seen_line area (begun (opening g before start old area))
@@ -229,50 +265,33 @@ module _ (g : Image) (before : List ℕ) (start : ℕ) (old area script : List �
       go zero = refl
       go (suc k) = refl
 
-  -- How many events an opening of this number has.
-  abbrev events_of : ℕ → ℕ
-  events_of k = length (unless k (unopened g start old) area (open_reply g before start old area)).events
+  -- The answer of an opening of this number.
+  answer-is : {s : Seen} → s ≡ seen_of (opening g before start old area) → (k : ℕ) → open_number g before start old area ≡ k → s.answer ≡ (unless k (unopened g start old) area (open_reply g before start old area)).answer
+  unfolding opening
+  answer-is h k q = ap (λ (s : Seen). s.answer) h ∙ ap (λ (j : ℕ). (unless j (unopened g start old) area (open_reply g before start old area)).answer) q
 
-  module _ (p : Reply) {after tail marks now : List ℕ} (h : told p after tail marks now ≡ seen_of (opening g before start old area)) where
-    count-is : (k : ℕ) → open_number g before start old area ≡ k → p.events ≡ events_of k
-    unfolding opening
-    count-is k q = ap (λ (s : Seen). s.count) h ∙ ap events_of q
+  -- A refused opening: no call is made.
+  pub none_made : (k : Refusal) {kept : Config} {now : List ℕ} → seen_of (refusing (number_of k) kept now) ≡ seen_of (opening g before start old area) → seen_of (refusing (number_of k) kept now) ≡ seen_line area (replayed g before start old area script)
+  unfolding calls
+  none_made k h = h ∙ opening-seen ∙ ap (λ (b : Bool). seen_line area (line_b folded g before start old area (cond b (scripted (begun (opening g before start old area)) area script) []))) (sym (go (open_number g before start old area) refl))
+    where
+      go : (j : ℕ) → open_number g before start old area ≡ j → eqb (open_number g before start old area) 0 ≡ false
+      go zero q = absurd (not-both None (number_of k) (sym (answer-is h zero q)))
+      go (suc j) q = ne_eqb (open_number g before start old area) 0 (omega arith)
 
-    -- A refused opening: no call is made.
-    pub none_made : p.events ≡ 0 → told p after tail marks now ≡ seen_line area (replayed g before start old area script)
-    unfolding calls
-    none_made z = h ∙ opening-seen ∙ ap (λ (b : Bool). seen_line area (line_b folded g before start old area (cond b (scripted (begun (opening g before start old area)) area script) []))) (sym (go (open_number g before start old area) refl))
-      where
-        go : (k : ℕ) → open_number g before start old area ≡ k → eqb (open_number g before start old area) 0 ≡ false
-        go zero q = absurd (omega (arith, count-is zero q))
-        go (suc k) q = ne_eqb (open_number g before start old area) 0 (omega arith)
-
-    -- An opening that is taken: no word of the script is performed yet.
-    first-played : p.events ≢ 0 → Played g before start old area script 0 p after tail marks now
-    unfolding calls
-    first-played ne =
-        let z : open_number g before start old area ≡ 0 = go (open_number g before start old area) refl in
-        record {
-          opened = z;
-          list = [];
-          line = h ∙ opening-seen;
-          rest = ap (λ (k : ℕ). line_b folded g before start old area (cond (eqb k 0) (scripted (begun (opening g before start old area)) area script) [])) z;
-        }
-      where
-        go : (k : ℕ) → open_number g before start old area ≡ k → open_number g before start old area ≡ 0
-        go zero q = q
-        go (suc k) q = absurd (ne (count-is (suc k) q))
-
--- What the loop over a script keeps: its place, the areas' lengths, and what was performed before it.
-pub record Going (script : List ℕ) (at₀ : ℕ) (p₀ : Reply) (after₀ tail₀ marks₀ now₀ : List ℕ) (at : ℕ) (p : Reply) (after tail marks now : List ℕ) : Type 0 where
-  pub place : at ≤ length script
-  pub same_after : length after ≡ length after₀
-  pub same-tail : length tail ≡ length tail₀
-  pub same-marks : length marks ≡ length marks₀
-  pub same-now : length now ≡ length now₀
-  pub goes : (g : Image) (before : List ℕ) (start : ℕ) (old area : List ℕ) → Played g before start old area script at₀ p₀ after₀ tail₀ marks₀ now₀ → Played g before start old area script at p after tail marks now
-
--- From the opening to the loop's place.
-pub so_far : {script : List ℕ} {p₀ : Reply} {after₀ tail₀ marks₀ now₀ : List ℕ} {at : ℕ} {p : Reply} {after tail marks now : List ℕ} (g : Image) (before : List ℕ) (start : ℕ) (old area : List ℕ) → Going script 0 p₀ after₀ tail₀ marks₀ now₀ at p after tail marks now
-    → told p₀ after₀ tail₀ marks₀ now₀ ≡ seen_of (opening g before start old area) → p₀.events ≢ 0 → Played g before start old area script at p after tail marks now
-so_far {script = script} {p₀ = p₀} g before start old area G h ne = G.goes g before start old area (first-played g before start old area script p₀ h ne)
+  -- An opening that is taken: no word of the script is performed yet.
+  pub first-played : (o : Reply) {after tail marks now : List ℕ} → told_taken o after tail marks now ≡ seen_of (opening g before start old area)
+      → Played g before start old area script script (record { last = Ok o.why; steps = o.steps; events = o.events; state = o.state }) after tail marks now
+  unfolding calls
+  first-played o h =
+      let z : open_number g before start old area ≡ 0 = go (open_number g before start old area) refl in
+      record {
+        opened = z;
+        list = [];
+        line = h ∙ opening-seen;
+        rest = ap (λ (k : ℕ). line_b folded g before start old area (cond (eqb k 0) (scripted (begun (opening g before start old area)) area script) [])) z;
+      }
+    where
+      go : (k : ℕ) → open_number g before start old area ≡ k → open_number g before start old area ≡ 0
+      go zero q = q
+      go (suc k) q = absurd (not-both o.why (suc k) (answer-is h (suc k) q))

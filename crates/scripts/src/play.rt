@@ -1,106 +1,108 @@
 // One search under a script of calls, each of which goes on from what the one before it left.
-ghost use Rattle.std.specs.Prelude.{◌≡◌, List, ℕ, ◌+◌, ◌-◌, ◌≤◌, min};
+ghost use Rattle.std.specs.Prelude.{◌≡◌, List, ℕ, ◌+◌, ◌≤◌};
 ghost use Rattle.images.specs.Checking.{image};
+ghost use Rattle.folding.specs.Calls.{unopened};
 ghost use Rattle.folding.specs.Lines.{Line, calls, folded};
-ghost use Rattle.states.specs.Answers.{told};
-ghost use Rattle.scripts.specs.Script.{seen_line, lent_to, called_by, replayed, Playing};
+ghost use Rattle.scripts.specs.Script.{seen_line, lent_to, called, replayed, told_line, told_script, steps_in, events_in, after_call, Playing};
 
+use crate::order::{Order, order_of};
 use folded::{run, step};
-use images::Vertex;
-use states::{Reply, open, roll_back};
+use images::{Image, Vertex};
+use refusals::Refusal;
+use states::{Reason, Reply, State, open, roll_back};
 
-// Where the words end that a call is lent from a place on: as many as it asks for, or what is left.
-fn end_of(from: usize, room: usize, words: usize) -> usize
-    requires { from ≤ words }
-    ensures { result ≡ from + min room (words - from) }
-{
-    if room < words - from {
-        return from + room;
-    }
-    words
+// What a script has done: the last call's answer, the steps and the events of all, and the state.
+#[derive(Clone, Copy)]
+pub struct Replayed {
+    pub last: Result<Option<Reason>, Refusal>,
+    pub steps: u32,
+    pub events: usize,
+    pub state: State,
 }
 
-// The line after one call more: its answer, and its steps and events added.
-fn noted(p: Reply, r: Reply) -> Reply
-    requires { (p.steps + r.steps ≤ 4294967295) × (p.events + r.events ≤ 4294967295) }
-    ensures { result ≡ record { answer = r.answer; steps = p.steps + r.steps; events = p.events + r.events; state = r.state } }
+// The same after one call more: its answer, and its steps and events added.
+fn noted(p: Replayed, answer: Result<Reply, Refusal>) -> Replayed
+    requires { (p.steps + steps_in answer ≤ 4294967295) × (p.events + events_in answer ≤ 4294967295) }
+    ensures { result ≡ after_call p answer }
 {
-    let a = r.answer;
-    let s = r.state;
-    Reply {
-        answer: a,
-        steps: p.steps + r.steps,
-        events: p.events + r.events,
-        state: s,
+    match answer {
+        Ok(r) => Replayed {
+            last: Ok(r.why),
+            steps: p.steps + r.steps,
+            events: p.events + r.events,
+            state: r.state,
+        },
+        Err(k) => Replayed { last: Err(k), ..p },
     }
 }
 
-// One call of a script: 1 is a run, 2 a single step, 3 a roll-back order; any other word names no call.
+// One call of a script, or none.
 fn perform(
-    call: u32,
+    order: Option<Order>,
     budget: u32,
     room: u32,
-    p: Reply,
+    p: Replayed,
     after: &mut [u16],
     tail: &mut [u16],
     marks: &mut [u16],
     events: &mut [u16],
-) -> Reply
+) -> Replayed
     requires { Playing p after.old tail.old marks.old events.old }
-    ensures { (area : List ℕ) (l : Line) → told p after.old tail.old marks.old events.old ≡ seen_line area l → told result after.new tail.new marks.new events.new ≡ seen_line area (calls folded l (called_by call budget (lent_to area l room))) }
+    ensures { (area : List ℕ) (l : Line) → told_line p after.old tail.old marks.old events.old ≡ seen_line area l → told_line result after.new tail.new marks.new events.new ≡ seen_line area (calls folded l (called order budget (lent_to area l room))) }
 {
     let s = p.state;
     let from = 3 * p.events;
-    let to = end_of(from, room as usize, events.len());
-    if call == 1 {
-        let r = run(s, budget, after, tail, marks, &mut events[from..to]);
-        return noted(p, r);
+    let lent = (room as usize).min(events.len() - from);
+    match order {
+        Some(Order::Run) => {
+            let answer = run(
+                s,
+                budget,
+                after,
+                tail,
+                marks,
+                &mut events[from..from + lent],
+            );
+            noted(p, answer)
+        }
+        Some(Order::Step) => {
+            let answer = step(s, after, tail, marks, &mut events[from..from + lent]);
+            noted(p, answer)
+        }
+        Some(Order::RollBack) => noted(p, roll_back(s)),
+        None => p,
     }
-    if call == 2 {
-        let r = step(s, after, tail, marks, &mut events[from..to]);
-        return noted(p, r);
-    }
-    if call == 3 {
-        let r = roll_back(s);
-        return noted(p, r);
-    }
-    p
 }
 
 // Opens a search with the elements already on the blank, and performs a script of calls: three words for each, which call, its budget, and
 // how many event words it is lent, which stand behind the events so far. The opening is refused by 1, 2, 3, 4, 5, 6, 7, 17, 18, and then no
-// call is made; a call of the script that is refused changes nothing, and the next one follows. Answers the last call's answer, the steps
-// and the events of all, and the state.
+// call is made; a call of the script that is refused changes nothing, and the next one follows.
 pub fn replay(
     n: u16,
     m: u16,
-    start: Vertex,
     after: &mut [u16],
     tail: &mut [u16],
     before: &[u16],
+    start: Vertex,
     marks: &mut [u16],
     events: &mut [u16],
     script: &[u32],
-) -> Reply
-    ensures { told result after.new tail.new marks.new events.new ≡ seen_line events.old (replayed (image n m after.old tail.old) before.now start.0 marks.old events.old script.now) }
+) -> Result<Replayed, Refusal>
+    ensures { told_script result (unopened (image n m after.new tail.new) start.0 marks.new) events.new ≡ seen_line events.old (replayed (image n m after.old tail.old) before.now start.0 marks.old events.old script.now) }
 {
-    let mut p = open(n, m, start, after, tail, before, marks, events);
-    if p.events == 0 {
-        return p;
+    let g = Image { n, m, after, tail };
+    let opened = open(&g, before, start, marks, events)?;
+    let mut p = Replayed {
+        last: Ok(opened.why),
+        steps: opened.steps,
+        events: opened.events,
+        state: opened.state,
+    };
+    let mut left = script;
+    while let [word, budget, room, rest @ ..] = left {
+        let order = order_of(*word);
+        p = perform(order, *budget, *room, p, after, tail, marks, events);
+        left = rest;
     }
-    let mut at: usize = 0;
-    while script.len() - at >= 3 {
-        p = perform(
-            script[at],
-            script[at + 1],
-            script[at + 2],
-            p,
-            after,
-            tail,
-            marks,
-            events,
-        );
-        at += 3;
-    }
-    p
+    Ok(p)
 }

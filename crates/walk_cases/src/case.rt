@@ -8,7 +8,7 @@ use crate::walker::Walker;
 use std::alloc::{AllocError, Global};
 
 // The areas that a walker is lent: two of links, which are after and tail words, or first positions and tails; marks, its own, events.
-#[derive(Clone, Copy, PartialEq, Eq)]
+#[derive(Clone, Copy)]
 pub(crate) enum Area {
     Links,
     Tails,

@@ -4,7 +4,7 @@ use crate::blanks::Form;
 use crate::case::Case;
 use crate::compare::walk;
 use crate::profiles::{EXAMPLE, Family, Plan, Seed};
-use crate::second::{Event, Left};
+use crate::second::Event;
 use crate::tally::Outcome;
 use crate::walker::Walker;
 use std::alloc::{AllocError, Global};

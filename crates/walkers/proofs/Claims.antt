@@ -1,7 +1,9 @@
 -- The claims of specs/Claims, by citing what graphs/ has proved of searches.
 use mathlib.Core.Path.{◌≡◌, refl, sym, ap, ◌∙◌}
-use mathlib.Core.List.{List, ◌++◌, reverse}
-use Prim.Native.Nat.{ℕ, ◌+◌, ◌*◌}
+use mathlib.Core.Bool.{false}
+use mathlib.Core.List.{List, [], ◌∷◌, ◌++◌, reverse}
+use Prim.Native.Nat.{ℕ, ◌+◌, ◌*◌, ◌≤◌}
+use borrow.Author.Tests.{le-ltb}
 use native.Mathlib.Omega.{arith}
 use lib.ListN.{length, take, drop, length-reverse}
 use lib.Seq.{take_at}
@@ -12,7 +14,7 @@ use Rattle.graphs.specs.Events.{History, words, labelled, tally}
 use Rattle.graphs.specs.Results.{unless_blank, marks_left, events_left}
 use Rattle.graphs.specs.Image.{Image, SameLinks, graph_of}
 use Rattle.graphs.specs.ArrayForm.{ArrayForm, array_graph, array_left}
-use Rattle.graphs.specs.Refusals.{Lent, blank_refusals, unless_refused}
+use Rattle.graphs.specs.Refusals.{Lent, lent, short, blank_refusals, unless_refused}
 use Rattle.graphs.proofs.Refusals.{taken-sound, checked-sound, none_first}
 use Rattle.graphs.proofs.Results.{tally-sums}
 use Rattle.graphs.proofs.Room.{words-length, profile-ready, array-ready}
@@ -51,6 +53,11 @@ array-walk-as-defined a before start marks increments events e =
     let R = array-ready a B.sound before start B.start_vertex B.listed in
     (depth-first (array_graph a) before start R, (untouched (array_graph a) before start R).0, fits B.roomy)
 
+-- What the walk of an array form writes is as long as stated.
+written-long : (n m : ℕ) (marks increments events : List ℕ) → n + m ≤ length marks → 6 * (n + m) ≤ length events → n ≤ length increments
+    → short (written_areas (n + m) marks events ++ lent n increments ∷ []) ≡ false
+written-long n m marks increments events p q r = rw (le-ltb (length marks) (n + m) p, le-ltb (length events) (6 * (n + m)) q, le-ltb (length increments) n r)
+
 pub converted : ConvertedClaim
 converted g before start marks events increments own firsts tails numbers e long =
     let areas : List Lent = written_areas (g.n + g.m) marks events ++ own in
@@ -58,7 +65,7 @@ converted g before start marks events increments own firsts tails numbers e long
     let checks = (checked-sound g before start areas).0 e in
     let sound-image = checks.0 in
     let a : ArrayForm = array_left g firsts tails in (
-      sym (array-list a before start marks increments events B.long_marks B.long-events long refl ((array_same g areas firsts tails numbers sound-image).taken start B.start_vertex))
+      sym (array-list a before start marks increments events (written-long g.n g.m marks increments events B.long_marks B.long-events long) refl ((array_same g areas firsts tails numbers sound-image).taken start B.start_vertex))
           ∙ none_first (blank_refusals g.n before start) (checks.2, (checks.3, tt)),
       converted-search g areas firsts tails numbers before start sound-image B.start_vertex,
     )

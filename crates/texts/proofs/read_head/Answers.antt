@@ -1,7 +1,8 @@
 -- `read_head` finds the first three lines.
 -- By what each reading finds, from the place where the one before it ends.
-use Rattle.std.proofs.Common.{ap, not, ◌+◌, ◌∙◌}
-use Rattle.texts.specs.Text.{head_at}
+use Rattle.std.proofs.Common.{◌≡◌, ap, not, ◌+◌, ◌∙◌}
+use Rattle.std.proofs.Math.Option.{none, some}
+use Rattle.texts.specs.Text.{line_names, names_at, head_at}
 use Rattle.texts.proofs.Reading.{first-none, first_some, absent, present}
 use Rattle.texts.proofs.read_head.Goals as goal
 
@@ -36,7 +37,8 @@ returns-in_err-start c =
 pub returns-then-not-begins_with-2 : goal.returns-then-not-begins_with-2
 unfolding head_at
 returns-then-not-begins_with-2 c =
-    first-none _ (absent c.begins_with-2.ensures (c.in_ok-start.start.next + 8) (ap not c.if-not-begins_with-2.true))
+    let names : none ≡ names_at c.args.text.now c.in_ok-start.start.next line_names = absent c.begins_with-2.ensures (c.in_ok-start.start.next + 8) (ap not c.if-not-begins_with-2.true) in
+    first-none _ names
     ∙ first_some _ c.in_ok-start.ensures
     ∙ first_some _ c.in_ok-m.ensures
     ∙ first_some _ c.in_ok-n.ensures
@@ -45,7 +47,8 @@ returns-then-not-begins_with-2 c =
 pub returns : goal.returns
 unfolding head_at
 returns c =
-    first_some _ (present c.begins_with-2.ensures (c.in_ok-start.start.next + 8) (ap not c.if-not-begins_with-2.false))
+    let names : some (c.in_ok-start.start.next + 8) ≡ names_at c.args.text.now c.in_ok-start.start.next line_names = present c.begins_with-2.ensures (c.in_ok-start.start.next + 8) (ap not c.if-not-begins_with-2.false) in
+    first_some _ names
     ∙ first_some _ c.in_ok-start.ensures
     ∙ first_some _ c.in_ok-m.ensures
     ∙ first_some _ c.in_ok-n.ensures

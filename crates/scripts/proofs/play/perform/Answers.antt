@@ -1,43 +1,64 @@
-use native.Mathlib.Omega.{arith}
+-- A call is lent the part of the event area behind the events so far, as many words as it asks for, or what is left.
+use Rattle.std.proofs.Common.{◌≡◌, ◌+◌, ◌-◌, ◌*◌, Some, ap, ◌∙◌, arith, rules}
+use Rattle.scripts.specs.declared.order.Order.TheVariants.{Run, Step, RollBack}
 use Rattle.scripts.proofs.Played.{from_low, few, run_more, step-more, order-more, none_more}
-use Rattle.std.proofs.Common.{rules}
 use Rattle.scripts.proofs.play.perform.Goals as goal
 
 pub overflow_mul-from : goal.overflow_mul-from
 overflow_mul-from c = let h = from_low c.requires in search rules
 
-pub end_of-to-requires : goal.end_of-to-requires
-end_of-to-requires c = from_low c.requires
+pub overflow_sub-events : goal.overflow_sub-events
+overflow_sub-events c = from_low c.requires
+
+pub overflow_add-from : goal.overflow_add-from
+overflow_add-from c = let h = from_low c.requires in let m = c.min-lent.ensures in search rules
 
 pub offset_bounds-events-from : goal.offset_bounds-events-from
 offset_bounds-events-from c = let h = from_low c.requires in search rules
 
 pub slice_bounds-run-end : goal.slice_bounds-run-end
-slice_bounds-run-end c = omega (arith, c.end_of-to.ensures, from_low c.requires)
+slice_bounds-run-end c = omega (arith, c.min-lent.ensures, from_low c.requires)
 
 pub noted-requires : goal.noted-requires
-noted-requires c = few c.requires c.run-r.result _ _ _ _ _ c.run-r.ensures
+noted-requires c = few c.requires c.run-answer.result _ _ _ _ _ c.run-answer.ensures
 
-pub returns-then-call-eq1 : goal.returns-then-call-eq1
-returns-then-call-eq1 c = λ area l e. let z = c.args in run_more z.p z.after.now z.tail.now z.marks.now z.events.now area l e z.call z.budget z.room c.end_of-to.result c.noted.result c.run-r.result _ _ _ _ c.if-call-eq1.true c.end_of-to.ensures c.noted.ensures c.run-r.ensures
+pub returns-in-Some-Run : goal.returns-in-Some-Run
+returns-in-Some-Run c = λ area l e.
+    let z = c.args in
+    let named : z.order ≡ Some c.in-Some-Run.field-0 = c.in-Some-Run.is in
+    let is : c.in-Some-Run.field-0 ≡ Run = rw named at c.in-Some-Run.field-0-is in
+    let from = 3 * z.p.events in
+    run_more z.p z.after.now z.tail.now z.marks.now z.events.now area l e z.budget z.room (from + c.min-lent.result - from) c.run-answer.result _ _ _ _ (named ∙ ap Some is) (omega (arith, c.min-lent.ensures)) c.noted.ensures c.run-answer.ensures
 
-pub offset_bounds-events-from-then-call-eq2 : goal.offset_bounds-events-from-then-call-eq2
-offset_bounds-events-from-then-call-eq2 c = let h = from_low c.requires in search rules
+pub overflow_add-from-in-Some-Step : goal.overflow_add-from-in-Some-Step
+overflow_add-from-in-Some-Step c = let h = from_low c.requires in let m = c.min-lent.ensures in search rules
+
+pub offset_bounds-events-from-in-Some-Step : goal.offset_bounds-events-from-in-Some-Step
+offset_bounds-events-from-in-Some-Step c = let h = from_low c.requires in search rules
 
 pub slice_bounds-step-end : goal.slice_bounds-step-end
-slice_bounds-step-end c = omega (arith, c.end_of-to.ensures, from_low c.requires)
+slice_bounds-step-end c = omega (arith, c.min-lent.ensures, from_low c.requires)
 
-pub noted-requires-then-call-eq2 : goal.noted-requires-then-call-eq2
-noted-requires-then-call-eq2 c = few c.requires c.step-r.result _ _ _ _ _ c.step-r.ensures
+pub noted-requires-in-Some-Step : goal.noted-requires-in-Some-Step
+noted-requires-in-Some-Step c = few c.requires c.step-answer.result _ _ _ _ _ c.step-answer.ensures
 
-pub returns-then-call-eq2 : goal.returns-then-call-eq2
-returns-then-call-eq2 c = λ area l e. let z = c.args in step-more z.p z.after.now z.tail.now z.marks.now z.events.now area l e z.call z.budget z.room c.end_of-to.result c.noted-then-call-eq2.result c.step-r.result _ _ _ _ c.if-call-eq2.true c.end_of-to.ensures c.noted-then-call-eq2.ensures c.step-r.ensures
+pub returns-in-Some-Step : goal.returns-in-Some-Step
+returns-in-Some-Step c = λ area l e.
+    let z = c.args in
+    let named : z.order ≡ Some c.in-Some-Step.field-0 = c.in-Some-Step.is in
+    let is : c.in-Some-Step.field-0 ≡ Step = rw named at c.in-Some-Step.field-0-is in
+    let from = 3 * z.p.events in
+    step-more z.p z.after.now z.tail.now z.marks.now z.events.now area l e z.budget z.room (from + c.min-lent.result - from) c.step-answer.result _ _ _ _ (named ∙ ap Some is) (omega (arith, c.min-lent.ensures)) c.noted-in-Some-Step.ensures c.step-answer.ensures
 
-pub noted-requires-then-call-eq3 : goal.noted-requires-then-call-eq3
-noted-requires-then-call-eq3 c = let z = c.args in few c.requires c.roll_back-r.result _ _ _ _ _ (c.roll_back-r.ensures z.after.now z.tail.now z.marks.now)
+pub noted-requires-in-Some-RollBack : goal.noted-requires-in-Some-RollBack
+noted-requires-in-Some-RollBack c = let z = c.args in few c.requires c.roll_back.result _ _ _ _ _ (c.roll_back.ensures z.after.now z.tail.now z.marks.now)
 
-pub returns-then-call-eq3 : goal.returns-then-call-eq3
-returns-then-call-eq3 c = λ area l e. let z = c.args in order-more z.p z.after.now z.tail.now z.marks.now z.events.now area l e z.call z.budget z.room c.noted-then-call-eq3.result c.roll_back-r.result c.if-call-eq3.true c.noted-then-call-eq3.ensures (c.roll_back-r.ensures z.after.now z.tail.now z.marks.now)
+pub returns-in-Some-RollBack : goal.returns-in-Some-RollBack
+returns-in-Some-RollBack c = λ area l e.
+    let z = c.args in
+    let named : z.order ≡ Some c.in-Some-RollBack.field-0 = c.in-Some-RollBack.is in
+    let is : c.in-Some-RollBack.field-0 ≡ RollBack = rw named at c.in-Some-RollBack.field-0-is in
+    order-more z.p z.after.now z.tail.now z.marks.now z.events.now area l e z.budget z.room c.roll_back.result (named ∙ ap Some is) c.noted-in-Some-RollBack.ensures (c.roll_back.ensures z.after.now z.tail.now z.marks.now)
 
-pub returns : goal.returns
-returns c = λ area l e. let z = c.args in none_more z.p z.after.now z.tail.now z.marks.now z.events.now area l e z.call z.budget z.room c.if-call-eq1.false c.if-call-eq2.false c.if-call-eq3.false
+pub returns-in-None : goal.returns-in-None
+returns-in-None c = λ area l e. let z = c.args in none_more z.p z.after.now z.tail.now z.marks.now z.events.now area l e z.budget z.room c.in-None.is

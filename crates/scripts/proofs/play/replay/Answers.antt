@@ -1,34 +1,24 @@
-use native.Mathlib.Omega.{arith}
+-- The loop keeps what was performed, and what the words that are left lead to.
+use Rattle.std.proofs.Common.{◌-◌, length, drop, length-drop, arith}
+use lib.Seq.{take_all}
+use Rattle.std.proofs.lemmas.Result.{err_from_is_err_and}
 use Rattle.images.specs.Checking.{image}
-use Rattle.scripts.proofs.Played.{so_far, none_made, playing, next-played, last-played}
+use Rattle.scripts.proofs.Played.{none_made, first-played, next-played, last-played}
 use Rattle.scripts.proofs.play.replay.Goals as goal
 
-pub returns-then-p-eq0 : goal.returns-then-p-eq0
-returns-then-p-eq0 c = let z = c.args in none_made (image z.n z.m z.after.now z.tail.now) z.before.now z.start.0 z.marks.now z.events.now z.script.now c.open-p.result c.open-p.ensures c.if-p-eq0.true
+pub returns-in_err-opened : goal.returns-in_err-opened
+returns-in_err-opened c =
+    let z = c.args in
+    let p = err_from_is_err_and c.from_residual.result c.from_residual.ensures.1 in
+    rw (p.1, p.2) (none_made (image z.n z.m z.after.now z.tail.now) z.before.now z.start.0 z.marks.now z.events.now z.script.now c.in_err-opened.field-0.0 c.in_err-opened.ensures)
 
-pub offset_bounds-script-at : goal.offset_bounds-script-at
-offset_bounds-script-at c = omega (arith, c.well_formed)
+pub loop-left-init : goal.loop-left-init
+loop-left-init c = let z = c.args in first-played (image z.n z.m z.after.now z.tail.now) z.before.now z.start.0 z.marks.now z.events.now z.script.now c.in_ok-opened.opened c.in_ok-opened.ensures
 
-pub overflow_add-at : goal.overflow_add-at
-overflow_add-at c = omega (arith, c.well_formed)
-
-pub offset_bounds-script-at-in-loop-at : goal.offset_bounds-script-at-in-loop-at
-offset_bounds-script-at-in-loop-at c = omega (arith, c.well_formed)
-
-pub overflow_add-at-in-loop-at : goal.overflow_add-at-in-loop-at
-overflow_add-at-in-loop-at c = omega (arith, c.well_formed)
-
-pub offset_bounds-script-at-in-loop-at-2 : goal.offset_bounds-script-at-in-loop-at-2
-offset_bounds-script-at-in-loop-at-2 c = omega (arith, c.well_formed)
-
-pub perform-p-requires : goal.perform-p-requires
-perform-p-requires c = let z = c.args in playing (so_far (image z.n z.m z.after.now z.tail.now) z.before.now z.start.0 z.marks.now z.events.now c.loop-at.invariant c.open-p.ensures c.if-p-eq0.false)
-
-pub overflow_add-at-in-loop-at-2 : goal.overflow_add-at-in-loop-at-2
-overflow_add-at-in-loop-at-2 c = omega (arith, c.well_formed)
-
-pub loop-at-preserved : goal.loop-at-preserved
-loop-at-preserved c = let l = c.loop-at.invariant in record { place = omega (arith, l.place, c.loop-at-test.true); same_after = omega (arith, l.same_after); same-tail = omega (arith, l.same-tail); same-marks = omega (arith, l.same-marks); same-now = omega (arith, l.same-now); goes = λ g before start old area P. next-played (l.goes g before start old area P) c.loop-at-test.true c.perform-p.ensures }
+pub loop-left-preserved : goal.loop-left-preserved
+loop-left-preserved c =
+    let left = c.loop-left.left.now in
+    next-played c.loop-left.invariant c.order_of-order.result c.in-len3-up.len_at_least (take_all (length left - 3) (drop 3 left) (omega (arith, length-drop 3 left))) c.order_of-order.ensures c.perform-p.ensures
 
 pub returns : goal.returns
-returns c = let z = c.args in last-played (so_far (image z.n z.m z.after.now z.tail.now) z.before.now z.start.0 z.marks.now z.events.now c.loop-at.invariant c.open-p.ensures c.if-p-eq0.false) c.loop-at-test.false
+returns c = last-played c.loop-left.invariant c.in_default.len_below

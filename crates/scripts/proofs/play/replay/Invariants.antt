@@ -1,10 +1,10 @@
-use Prim.Native.Nat.{◌-◌}
-use lib.ListN.{length}
-use Rattle.scripts.proofs.Played.{Going}
+use Rattle.std.proofs.Common.{length}
+use Rattle.images.specs.Checking.{image}
+use Rattle.scripts.proofs.Played.{Played}
 use Rattle.scripts.proofs.play.replay.Given as goal
 
-abbrev pub invariant-loop-at : goal.invariant-loop-at
-invariant-loop-at l = Going l.script l.initial.at l.initial.p l.initial.after l.initial.tail l.initial.marks l.initial.events l.at l.p l.after l.tail l.marks l.events
+abbrev pub invariant-loop-left : goal.invariant-loop-left
+invariant-loop-left l = Played (image l.fn.n l.fn.m l.fn.after l.fn.tail) l.fn.before l.fn.start.0 l.fn.marks l.fn.events l.fn.script l.left l.p l.after l.tail l.marks l.events
 
-abbrev pub decreases-loop-at : goal.decreases-loop-at
-decreases-loop-at l = length l.script - l.at
+abbrev pub decreases-loop-left : goal.decreases-loop-left
+decreases-loop-left l = length l.left
