@@ -1,145 +1,76 @@
 // Numbers of the text: written and read back, all of them; at places without room; and digits in form and not.
-use crate::areas::{Text, between, byte_at, first_bytes, get_byte, lent_bytes, put_byte, word};
-use crate::calls::{found, read_number, write_number};
-use crate::chance::{draw, draw_word, pick};
-use crate::tally::{Outcome, also};
-use crate::writer::put_number;
+use crate::areas::{BLANK, lent, part, store};
+use crate::calls::{read_number, write_number};
+use crate::chance::{draw, draw_below, draw_word, pick};
+use crate::tally::{Group, Outcome};
+use std::alloc::{AllocError, Global};
+use std::str;
 
-// The call is lent an area of this many bytes, or fewer; the second has as many behind it, and some to try in behind those.
+// The call is lent an area of this many bytes, or fewer.
 const ROOM: usize = 16;
 
-const TRIAL: usize = 40;
-
-// The place past the digits from `at` on.
-fn past_digits(text: &[u8], at: usize) -> usize {
-    let top = text.len();
-    if top <= at {
-        return at;
-    }
-    let mut i = at;
-    while i < top {
-        if !between(48, get_byte(text, i) as u32, 57) {
-            return i;
-        }
-        i += 1;
-    }
-    i
+// What a number is written as: the whole area, and the place past the digits.
+#[derive(Clone, Copy, PartialEq, Eq)]
+struct Digits {
+    area: [u8; ROOM],
+    past: usize,
 }
 
-// A value with one digit more; over 65,535 it stays as it is.
-fn grown(value: u64, b: u8) -> u64 {
-    if 65535 < value {
-        return value;
-    }
-    value * 10 + b as u64 % 48
+// Writes x into the first `length` bytes of an area.
+fn write(x: u16, length: usize, at: usize) -> Digits {
+    let mut area = [BLANK; ROOM];
+    let past = write_number(x, lent(&mut area, length), at);
+    Digits { area, past }
 }
 
-// The value of the digits from a place up to `top`.
-fn value_of(text: &[u8], at: usize, top: usize) -> u64 {
-    if top <= at {
-        return 0;
+// Where there is room, what x is to be written as; else an area that is untouched.
+fn write_second(alloc: Global, x: u16, length: usize, at: usize) -> Result<Digits, AllocError> {
+    let mut area = [BLANK; ROOM];
+    let digits = x.to_string(alloc)?;
+    let past = at.saturating_add(digits.len());
+    if length < past {
+        return Ok(Digits { area, past: at });
     }
-    let mut value: u64 = 0;
-    let mut i = at;
-    while i < top {
-        value = grown(value, get_byte(text, i));
-        i += 1;
-    }
-    value
-}
-
-// The number at a place: first the end of its digits is found, then what they are worth.
-fn take_number(text: &[u8], at: usize) -> u64 {
-    let past = past_digits(text, at);
-    if past <= at {
-        return 0;
-    }
-    if 5 < past - at {
-        return 0;
-    }
-    let value = value_of(text, at, past);
-    if 65535 < value {
-        return 0;
-    }
-    found(value, past)
-}
-
-fn store_bytes(text: &mut Text, at: usize, bytes: &[u8]) {
-    let top = bytes.len();
-    let mut i: usize = 0;
-    while i < top {
-        put_byte(text, at % 64 + i % 64, get_byte(bytes, i));
-        i += 1;
-    }
-}
-
-// Whether the first `top` bytes are not those of the second.
-fn bytes_differ(text: &Text, top: usize) -> bool {
-    let mut i: usize = 0;
-    while i < top {
-        if byte_at(text, i) != byte_at(text, i % 64 + ROOM) {
-            return true;
-        }
-        i += 1;
-    }
-    false
-}
-
-// Writes x into the first `length` bytes of an area; the area, whole, comes into the text, and one that is untouched behind it.
-fn write(text: &mut Text, x: u16, length: usize, at: usize) -> usize {
-    let mut area = [35u8; ROOM];
-    store_bytes(text, ROOM, &area);
-    let past = write_number(x, lent_bytes(&mut area, length), at);
-    store_bytes(text, 0, &area);
-    past
-}
-
-// Where there is room, writes x as the second does; the place past it.
-fn put_with_room(text: &mut Text, x: u16, length: usize, at: usize) -> usize {
-    let digits = put_number(text, TRIAL, x as u64) % TRIAL;
-    if length < at {
-        return at;
-    }
-    if length - at < digits {
-        return at;
-    }
-    put_number(text, at % 64 + ROOM, x as u64);
-    at % 64 + digits
+    store(&mut area, at, digits.as_bytes());
+    Ok(Digits { area, past })
 }
 
 // The case of a write into the first `length` bytes; 3 is counted where there is no room.
-fn written(text: &mut Text, x: u16, length: usize, at: usize) -> Outcome {
-    let past = write(text, x, length, at);
-    let second = put_with_room(text, x, length, at);
-    let differs = past != second || bytes_differ(text, ROOM);
-    also(if past == at { 3 } else { 0 }, differs)
+fn written(alloc: Global, x: u16, length: usize, at: usize) -> Result<Outcome, AllocError> {
+    let first = write(x, length, at);
+    let second = write_second(alloc, x, length, at)?;
+    Ok(Outcome {
+        answer: if first.past == at { 3 } else { 0 },
+        differs: first != second,
+    })
 }
 
-// Whether x is not read back, with a byte behind it and at the end of the text.
-fn value_differs(text: &[u8], x: u16, at: usize) -> bool {
-    let past = past_digits(text, at);
-    let said = found(x as u64, past);
-    read_number(text, at) != said || read_number(first_bytes(text, past), at) != said
+// One of the values from 0 to 65,535: written, and read back with a byte behind it and at the end of the text.
+fn value_case(alloc: Global, x: u16) -> Result<Outcome, AllocError> {
+    let at = usize::from(x % 7);
+    let Digits { area, past } = write(x, ROOM, at);
+    let said = Some((x, past));
+    let differs = read_number(&area, at) != said || read_number(part(&area, past), at) != said;
+    Ok(written(alloc, x, ROOM, at)?.also(differs))
 }
 
-// One of the values from 0 to 65,535: written, and read back.
-pub(crate) fn value_case(text: &mut Text, i: usize) -> Outcome {
-    let x = word(i as u64);
-    let o = written(text, x, ROOM, i % 7);
-    also(o, value_differs(text, x, i % 7))
+// Every number.
+pub(crate) fn value_cases(group: &mut Group) -> Result<(), AllocError> {
+    let alloc = group.alloc;
+    group.add_draws(0..=u16::MAX, |x| value_case(alloc, x))
 }
 
 // A place: mostly near the start, at times far past every area.
-fn draw_place(seed: u64) -> usize {
+fn draw_place(seed: u16) -> usize {
     match draw(seed, 60, 10) {
         0 => 18446744073709551615,
         1 => 9223372036854775807,
-        _ => draw(seed, 61, 14) as usize,
+        _ => draw_below(seed, 61, 14),
     }
 }
 
 // A number with one digit, two, three, or any.
-pub(crate) fn draw_number(seed: u64) -> u16 {
+pub(crate) fn draw_number(seed: u16) -> u16 {
     let x = draw_word(seed, 62);
     match draw(seed, 64, 6) {
         0 => x % 10,
@@ -149,116 +80,114 @@ pub(crate) fn draw_number(seed: u64) -> u16 {
     }
 }
 
-// The case of a number whose digits are written down: with room for exactly these they are written, with less nothing is.
-fn written_as(text: &mut Text, x: u16, digits: &[u8], less: usize) -> Outcome {
-    let without = written(text, x, less, 0);
-    let o = written(text, x, digits.len(), 0);
-    store_bytes(text, ROOM, digits);
-    also(
-        o,
-        without != 3 || o != 0 || bytes_differ(text, digits.len()),
-    )
-}
+// The least and the greatest number of each length, with its digits.
+#[rattlefmt::skip]
+const LIMITS: [(u16, &[u8]); 10] = [
+    (0, b"0"),
+    (9, b"9"),
+    (10, b"10"),
+    (99, b"99"),
+    (100, b"100"),
+    (999, b"999"),
+    (1000, b"1000"),
+    (9999, b"9999"),
+    (10000, b"10000"),
+    (65535, b"65535"),
+];
 
-// The least and the greatest number of each length.
-fn length_case(text: &mut Text, i: usize) -> Outcome {
-    match i {
-        0 => written_as(text, 0, b"0", 0),
-        1 => written_as(text, 9, b"9", 0),
-        2 => written_as(text, 10, b"10", 1),
-        3 => written_as(text, 99, b"99", 1),
-        4 => written_as(text, 100, b"100", 2),
-        5 => written_as(text, 999, b"999", 2),
-        6 => written_as(text, 1000, b"1000", 3),
-        7 => written_as(text, 9999, b"9999", 3),
-        8 => written_as(text, 10000, b"10000", 4),
-        _ => written_as(text, 65535, b"65535", 4),
-    }
+// The case of a number whose digits are written down: with room for exactly these they are written, with less nothing is.
+fn written_as(alloc: Global, x: u16, digits: &[u8]) -> Result<Outcome, AllocError> {
+    let length = digits.len();
+    let without = written(alloc, x, length.saturating_sub(1), 0)?;
+    let with = written(alloc, x, length, 0)?;
+    let Digits { area, .. } = write(x, length, 0);
+    Ok(with.expected(0).also(without.differs || without.answer != 3 || !area.starts_with(digits)))
 }
 
 // A number written at a place with or without room.
-fn placed_case(text: &mut Text, seed: u64) -> Outcome {
-    written(
-        text,
-        draw_number(seed),
-        draw(seed, 65, 17) as usize,
-        draw_place(seed),
-    )
+fn placed_case(alloc: Global, seed: u16) -> Result<Outcome, AllocError> {
+    let length = draw_below(seed, 65, 17);
+    written(alloc, draw_number(seed), length, draw_place(seed))
 }
 
-// The rows, then numbers and places by chance.
-pub(crate) fn room_case(text: &mut Text, i: usize) -> Outcome {
-    if i < 10 {
-        return length_case(text, i);
-    }
-    placed_case(text, i as u64 - 10)
+// The numbers at the limits, then numbers and places by chance.
+pub(crate) fn room_cases(group: &mut Group) -> Result<(), AllocError> {
+    let alloc = group.alloc;
+    group.add_rows(&LIMITS, |(x, digits)| written_as(alloc, *x, digits))?;
+    group.add_draws(0..=3999, |seed| placed_case(alloc, seed))
 }
 
-// Bytes by chance: mostly digits, many of them zeros, else what stands next to the digits, in a text or in no text.
-fn draw_digits(text: &mut Text, top: usize, seed: u64) {
-    let mut i: usize = 0;
-    while i < top {
-        put_byte(
-            text,
-            i,
-            pick(
-                seed,
-                i as u64 % 8192 + 100,
-                b"0000000000000000123456789123456789465535/:,\n -+\x00\xff",
-            ),
-        );
-        i += 1;
+// The number at a place: first the end of its digits is found, then what they are worth.
+fn take_number(text: &[u8], at: usize) -> Option<(u16, usize)> {
+    let rest = text.get(at..)?;
+    let count = rest.iter().take_while(|b| b.is_ascii_digit()).count();
+    if 5 < count {
+        return None;
     }
-}
-
-// At times, a number next to the limit 65,535.
-fn draw_near_limit(text: &mut Text, at: usize, seed: u64) {
-    if draw(seed, 66, 3) == 0 {
-        put_number(text, at, 65520 + draw(seed, 67, 32) as u64);
-    }
+    let digits = str::from_utf8(rest.get(..count)?).ok()?;
+    let value = digits.parse().ok()?;
+    Some((value, at.checked_add(count)?))
 }
 
 // The case of a read: what is found against the second; 12 is counted where the digits are not in form.
 fn read(text: &[u8], at: usize) -> Outcome {
-    let a = read_number(text, at);
-    also(if a == 0 { 12 } else { 0 }, a != take_number(text, at))
-}
-
-// The case of digits that are written down, with what is to be found at their first.
-fn read_as(digits: &[u8], said: u64) -> Outcome {
-    also(read(digits, 0), read_number(digits, 0) != said)
-}
-
-// One to five digits, with zeros in front and without, up to 65,535; more, and six digits; a byte behind that is no digit.
-fn row_case(i: usize) -> Outcome {
-    match i {
-        0 => read_as(b"00000", found(0, 5)),
-        1 => read_as(b"00012", found(12, 5)),
-        2 => read_as(b"00001", found(1, 5)),
-        3 => read_as(b"65535", found(65535, 5)),
-        4 => read_as(b"065535", 0),
-        5 => read_as(b"65536", 0),
-        6 => read_as(b"99999", 0),
-        7 => read_as(b"000000", 0),
-        8 => read_as(b"000012", 0),
-        9 => read_as(b"0", found(0, 1)),
-        10 => read_as(b"00000,", found(0, 5)),
-        _ => read_as(b"12a", found(12, 2)),
+    let found = read_number(text, at);
+    Outcome {
+        answer: if found.is_none() { 12 } else { 0 },
+        differs: found != take_number(text, at),
     }
 }
 
-// A number read from digits by chance.
-fn drawn_case(text: &mut Text, seed: u64) -> Outcome {
-    let at = draw(seed, 68, 12) as usize;
-    draw_digits(text, ROOM, seed);
-    draw_near_limit(text, at, seed);
-    read(first_bytes(text, draw(seed, 69, 17) as usize), at)
+// One to five digits, with zeros in front and without, up to 65,535; more, and six digits; a byte behind that is no digit. With what is
+// to be found at the first digit.
+#[rattlefmt::skip]
+const READS: [(&[u8], Option<(u16, usize)>); 12] = [
+    (b"00000", Some((0, 5))),
+    (b"00012", Some((12, 5))),
+    (b"00001", Some((1, 5))),
+    (b"65535", Some((65535, 5))),
+    (b"065535", None),
+    (b"65536", None),
+    (b"99999", None),
+    (b"000000", None),
+    (b"000012", None),
+    (b"0", Some((0, 1))),
+    (b"00000,", Some((0, 5))),
+    (b"12a", Some((12, 2))),
+];
+
+// The case of digits that are written down.
+fn read_as(digits: &[u8], said: Option<(u16, usize)>) -> Outcome {
+    read(digits, 0).also(read_number(digits, 0) != said)
 }
 
-// The rows, then digits by chance.
-pub(crate) fn digits_case(text: &mut Text, i: usize) -> Outcome {
-    if i < 12 {
-        return row_case(i);
+// Bytes by chance: mostly digits, many of them zeros, else what stands next to the digits, in a text or in no text.
+fn draw_digits(seed: u16) -> [u8; ROOM] {
+    let mut text = [0u8; ROOM];
+    for (place, byte) in (100..116u16).zip(text.iter_mut()) {
+        *byte = pick(
+            seed,
+            place,
+            b"0000000000000000123456789123456789465535/:,\n -+\x00\xff",
+        );
     }
-    drawn_case(text, i as u64 - 12)
+    text
+}
+
+// A number read from digits by chance, at times from one next to the limit 65,535.
+fn drawn_case(alloc: Global, seed: u16) -> Result<Outcome, AllocError> {
+    let at = draw_below(seed, 68, 12);
+    let mut text = draw_digits(seed);
+    if draw(seed, 66, 3) == 0 {
+        let near = (u32::from(draw(seed, 67, 32)) + 65520).to_string(alloc)?;
+        store(&mut text, at, near.as_bytes());
+    }
+    Ok(read(part(&text, draw_below(seed, 69, 17)), at))
+}
+
+// The digits that are written down, then digits by chance.
+pub(crate) fn digits_cases(group: &mut Group) -> Result<(), AllocError> {
+    let alloc = group.alloc;
+    group.add_rows(&READS, |(digits, said)| Ok(read_as(digits, *said)))?;
+    group.add_draws(0..=3999, |seed| drawn_case(alloc, seed))
 }

@@ -1,166 +1,169 @@
 // Images and array forms at the limits: 1,000 vertices and 4,000 edges. Each case is a row of a table, with the number that it is to
-// be answered with; the largest image is drawn before the first row.
-use crate::areas::{AFTER, Desk, LISTED, TAIL, get_at, part, put_at};
+// be answered with.
+use crate::areas::{part, put};
 use crate::conversions::{Given, converted};
-use crate::drawn::draw_image;
-use crate::image::checked;
-use crate::queries::{Query, draw_array, queried};
-use crate::tally::{Outcome, expected};
+use crate::drawn::Image;
+use crate::image::{Sizes, checked};
+use crate::queries::{ArrayForm, Query};
+use crate::tally::{Group, Outcome};
+use std::alloc::{AllocError, Global};
 
-// The sizes and the lengths that a call is given, a vertex, and a word in place of another. The first
-// length is of after or firsts, the second of tail or tails.
+const LARGEST: Sizes = Sizes { n: 1000, m: 4000 };
+
+// A word in place of another in the largest image: of its after words or of its tails.
 #[derive(Clone, Copy)]
-struct Row {
+enum Replaced {
+    Nothing,
+    After(usize, u16),
+    Tail(usize, u16),
+}
+
+// The sizes and the lengths that the checker is given, and a word that is replaced.
+#[derive(Clone, Copy)]
+struct CheckRow {
     n: u16,
     m: u16,
-    of_nodes: usize,
-    of_edges: usize,
-    u: u16,
-    area: usize,
-    place: usize,
-    word: u16,
+    after: usize,
+    tail: usize,
+    replaced: Replaced,
     number: u16,
 }
 
-fn sized(n: u16, m: u16, of_nodes: usize, of_edges: usize, number: u16) -> Row {
-    Row {
+// Sizes and lengths of the largest image as it was drawn.
+fn sized(n: u16, m: u16, after: usize, tail: usize, number: u16) -> CheckRow {
+    CheckRow {
         n,
         m,
-        of_nodes,
-        of_edges,
-        u: 1,
-        area: AFTER,
-        place: 9999,
-        word: 0,
+        after,
+        tail,
+        replaced: Replaced::Nothing,
         number,
     }
 }
 
-fn with_word(area: usize, place: usize, word: u16, number: u16) -> Row {
-    let mut r = sized(1000, 4000, 5000, 4000, number);
-    r.area = area;
-    r.place = place;
-    r.word = word;
-    r
-}
-
-fn asked(u: u16, number: u16) -> Row {
-    let mut r = sized(1000, 4000, 1001, 4000, number);
-    r.u = u;
-    r
-}
-
-fn check_row(i: usize) -> Row {
-    match i {
-        0 => sized(1000, 4000, 5000, 4000, 0),
-        1 => sized(1001, 4000, 5001, 4000, 1),
-        2 => sized(1001, 4001, 5002, 4001, 1),
-        3 => sized(1000, 4001, 5001, 4001, 2),
-        4 => sized(1000, 4000, 4999, 4000, 3),
-        5 => sized(1000, 4000, 5000, 3999, 3),
-        6 => with_word(AFTER, 4999, 5001, 5),
-        7 => with_word(AFTER, 0, 1000, 5),
-        8 => with_word(TAIL, 3999, 1001, 6),
-        9 => with_word(TAIL, 3999, 0, 6),
-        10 => with_word(TAIL, 3999, 1000, 0),
-        _ => with_word(AFTER, 4999, 5000, 7),
-    }
-}
-
-// Draws the largest image before the first row.
-fn prepare(d: &mut Desk, i: usize) {
-    if i == 0 {
-        draw_image(d, 1, 1000, 4000);
-    }
-}
-
-// Puts a word in place of another, which is given back.
-fn exchange(d: &mut Desk, area: usize, place: usize, word: u16) -> u16 {
-    let before = get_at(d, area, place);
-    put_at(d, area, place, word);
-    before
-}
-
-fn check_at(d: &Desk, r: Row) -> Outcome {
-    let o = checked(
-        r.n,
-        r.m,
-        part(d, AFTER, r.of_nodes),
-        part(d, TAIL, r.of_edges),
-    );
-    expected(o, r.number)
-}
-
-pub(crate) fn check_case(d: &mut Desk, i: usize) -> Outcome {
-    let r = check_row(i);
-    prepare(d, i);
-    let before = exchange(d, r.area, r.place, r.word);
-    let o = check_at(d, r);
-    put_at(d, r.area, r.place, before);
-    o
-}
-
-// Here the length of nodes is that of the first positions.
-fn conversion_row(i: usize) -> Row {
-    match i {
-        0 => sized(1001, 4000, 1002, 4000, 1),
-        1 => sized(1000, 4001, 1001, 4001, 2),
-        2 => sized(1000, 4000, 1000, 4000, 3),
-        3 => sized(1000, 4000, 1001, 3999, 3),
-        _ => sized(1000, 4000, 1001, 4000, 0),
-    }
-}
-
-fn given(r: Row) -> Given {
-    Given {
-        n: r.n,
-        m: r.m,
+// The largest image with one word replaced.
+fn with_word(replaced: Replaced, number: u16) -> CheckRow {
+    CheckRow {
+        n: 1000,
+        m: 4000,
         after: 5000,
         tail: 4000,
-        firsts: r.of_nodes,
-        tails: r.of_edges,
-        numbers: 4000,
+        replaced,
+        number,
     }
 }
 
-pub(crate) fn conversion_case(d: &mut Desk, i: usize) -> Outcome {
-    let r = conversion_row(i);
-    prepare(d, i);
-    expected(converted(d, LISTED, given(r)), r.number)
+// The rows of the checker.
+fn check_rows() -> [CheckRow; 12] {
+    [
+        sized(1000, 4000, 5000, 4000, 0),
+        sized(1001, 4000, 5001, 4000, 1),
+        sized(1001, 4001, 5002, 4001, 1),
+        sized(1000, 4001, 5001, 4001, 2),
+        sized(1000, 4000, 4999, 4000, 3),
+        sized(1000, 4000, 5000, 3999, 3),
+        with_word(Replaced::After(4999, 5001), 5),
+        with_word(Replaced::After(0, 1000), 5),
+        with_word(Replaced::Tail(3999, 1001), 6),
+        with_word(Replaced::Tail(3999, 0), 6),
+        with_word(Replaced::Tail(3999, 1000), 0),
+        with_word(Replaced::After(4999, 5000), 7),
+    ]
 }
 
-fn query_row(i: usize) -> Row {
-    match i {
-        0 => asked(1, 0),
-        1 => asked(500, 0),
-        2 => asked(1000, 0),
-        3 => asked(1001, 4),
-        4 => sized(1001, 4000, 1002, 4000, 1),
-        5 => sized(1000, 4001, 1001, 4001, 2),
-        6 => sized(1000, 4000, 1000, 4000, 3),
-        _ => sized(1000, 4000, 1001, 3999, 3),
+// The checker on the largest image, drawn and then replaced in one word.
+fn check_row(alloc: Global, row: &CheckRow) -> Result<Outcome, AllocError> {
+    let mut image = Image::new(alloc)?;
+    image.draw(alloc, 1, LARGEST)?;
+    match row.replaced {
+        Replaced::Nothing => {}
+        Replaced::After(place, word) => put(&mut image.after, place, word),
+        Replaced::Tail(place, word) => put(&mut image.tail, place, word),
     }
+    let sizes = Sizes { n: row.n, m: row.m };
+    let after = part(&image.after, row.after);
+    let tail = part(&image.tail, row.tail);
+    Ok(checked(sizes, after, tail).expected(row.number))
 }
 
-// Draws the largest array form before the first row.
-fn prepare_array(d: &mut Desk, i: usize) {
-    if i == 0 {
-        draw_array(d, 2, 1000, 4000);
-    }
+// The checker at the limits.
+pub(crate) fn check_cases(group: &mut Group) -> Result<(), AllocError> {
+    let alloc = group.alloc;
+    group.add_rows(&check_rows(), |row| check_row(alloc, row))
 }
 
-fn query_of(r: Row) -> Query {
-    Query {
-        n: r.n,
-        m: r.m,
-        firsts: r.of_nodes,
-        tails: r.of_edges,
-        u: r.u,
-    }
+// The sizes that a conversion is given, and the lengths of its first positions and its tails.
+#[derive(Clone, Copy)]
+struct ConversionRow {
+    n: u16,
+    m: u16,
+    firsts: usize,
+    tails: usize,
+    number: u16,
 }
 
-pub(crate) fn query_case(d: &mut Desk, i: usize) -> Outcome {
-    let r = query_row(i);
-    prepare_array(d, i);
-    expected(queried(d, query_of(r)), r.number)
+#[rattlefmt::skip]
+const CONVERSIONS: [ConversionRow; 5] = [
+    ConversionRow { n: 1001, m: 4000, firsts: 1002, tails: 4000, number: 1 },
+    ConversionRow { n: 1000, m: 4001, firsts: 1001, tails: 4001, number: 2 },
+    ConversionRow { n: 1000, m: 4000, firsts: 1000, tails: 4000, number: 3 },
+    ConversionRow { n: 1000, m: 4000, firsts: 1001, tails: 3999, number: 3 },
+    ConversionRow { n: 1000, m: 4000, firsts: 1001, tails: 4000, number: 0 },
+];
+
+// The converter at the limits.
+pub(crate) fn conversion_cases(group: &mut Group) -> Result<(), AllocError> {
+    let alloc = group.alloc;
+    let mut image = Image::new(alloc)?;
+    let listing = image.draw(alloc, 1, LARGEST)?;
+    group.add_rows(&CONVERSIONS, |row| {
+        let given = Given {
+            sizes: Sizes { n: row.n, m: row.m },
+            after: 5000,
+            tail: 4000,
+            firsts: row.firsts,
+            tails: row.tails,
+            numbers: 4000,
+        };
+        Ok(converted(alloc, &image, &listing, given)?.expected(row.number))
+    })
+}
+
+// The sizes, the lengths and the vertex that a query is given.
+#[derive(Clone, Copy)]
+struct QueryRow {
+    n: u16,
+    m: u16,
+    firsts: usize,
+    tails: usize,
+    u: u16,
+    number: u16,
+}
+
+#[rattlefmt::skip]
+const QUERIES: [QueryRow; 8] = [
+    QueryRow { n: 1000, m: 4000, firsts: 1001, tails: 4000, u: 1, number: 0 },
+    QueryRow { n: 1000, m: 4000, firsts: 1001, tails: 4000, u: 500, number: 0 },
+    QueryRow { n: 1000, m: 4000, firsts: 1001, tails: 4000, u: 1000, number: 0 },
+    QueryRow { n: 1000, m: 4000, firsts: 1001, tails: 4000, u: 1001, number: 4 },
+    QueryRow { n: 1001, m: 4000, firsts: 1002, tails: 4000, u: 1, number: 1 },
+    QueryRow { n: 1000, m: 4001, firsts: 1001, tails: 4001, u: 1, number: 2 },
+    QueryRow { n: 1000, m: 4000, firsts: 1000, tails: 4000, u: 1, number: 3 },
+    QueryRow { n: 1000, m: 4000, firsts: 1001, tails: 3999, u: 1, number: 3 },
+];
+
+// The query at the limits.
+pub(crate) fn query_cases(group: &mut Group) -> Result<(), AllocError> {
+    let alloc = group.alloc;
+    let mut form = ArrayForm::new(alloc)?;
+    form.draw(alloc, 2, LARGEST)?;
+    group.add_rows(&QUERIES, |row| {
+        let query = Query {
+            sizes: Sizes { n: row.n, m: row.m },
+            firsts: row.firsts,
+            tails: row.tails,
+            u: row.u,
+        };
+        Ok(query.asked(alloc, &form)?.expected(row.number))
+    })
 }

@@ -1,161 +1,172 @@
 // The array form judged and asked a second way: words are counted, and each position is asked whether it is of the vertex.
-use crate::areas::{
-    Desk, FIRSTS, LISTED, SPAN, TAILS, WANT, differ, get, next, part, within, word,
-};
-use crate::calls::{edges_out, edges_out_number};
-use crate::chance::draw;
-use crate::drawn::{damage, draw_length, draw_m, draw_n, one_more, other_m, other_n, other_seed};
-use crate::image::size_number;
-use crate::listing::{
-    FIRST_POSITIONS, ORDERED_TAILS, POSITIONS, draw_pairs, place_of_position, write,
-};
-use crate::tally::{Outcome, also};
+use crate::areas::{SPAN, of_node, part, store, word};
+use crate::calls::{edges_out, check_query};
+use crate::chance::draw_below;
+use crate::drawn::{damage, damaged_place, draw_length, draw_sizes, other_seed, other_sizes};
+use crate::image::{Sizes, are_vertices};
+use crate::listing::{draw_listing, first_positions, ordered_tails};
+use crate::tally::{Group, Outcome};
+use std::alloc::{AllocError, Global};
 
-// A query of the array form on the desk: the sizes, the lengths that the areas are lent at, and the vertex.
+// The areas of an array form. What is drawn is written over what was there.
+#[derive(Drop)]
+pub(crate) struct ArrayForm {
+    pub(crate) firsts: Vec<u16>,
+    pub(crate) tails: Vec<u16>,
+}
+
+impl ArrayForm {
+    // Areas of zeros.
+    pub(crate) fn new(alloc: Global) -> Result<ArrayForm, AllocError> {
+        let firsts = vec![in alloc; 0u16; SPAN]?;
+        let tails = vec![in alloc; 0u16; SPAN]?;
+        Ok(ArrayForm { firsts, tails })
+    }
+
+    // Draws a sound array form.
+    pub(crate) fn draw(
+        &mut self,
+        alloc: Global,
+        seed: u16,
+        sizes: Sizes,
+    ) -> Result<(), AllocError> {
+        let listing = draw_listing(alloc, seed, sizes.n, sizes.m, 64)?;
+        let firsts = first_positions(alloc, sizes.n, &listing)?;
+        let tails = ordered_tails(alloc, &listing)?;
+        store(&mut self.firsts, 0, &firsts);
+        store(&mut self.tails, 0, &tails);
+        Ok(())
+    }
+
+    // Draws an array form and damages it, the first positions and the tails once.
+    fn draw_damaged(&mut self, alloc: Global, seed: u16) -> Result<(), AllocError> {
+        let sizes = draw_sizes(seed);
+        self.draw(alloc, seed, sizes)?;
+        let past = sizes.n.wrapping_add(1);
+        let one = other_seed(seed, 1);
+        let end = damaged_place(one, past);
+        damage(&mut self.firsts, one, past, sizes.m.wrapping_add(2), end);
+        let other = other_seed(seed, 2);
+        let end = damaged_place(other, sizes.m);
+        damage(&mut self.tails, other, sizes.m, past, end);
+        Ok(())
+    }
+}
+
+// A query of an array form: the sizes, the lengths that the areas are lent at, and the vertex.
 #[derive(Clone, Copy)]
 pub(crate) struct Query {
-    pub(crate) n: u16,
-    pub(crate) m: u16,
+    pub(crate) sizes: Sizes,
     pub(crate) firsts: usize,
     pub(crate) tails: usize,
     pub(crate) u: u16,
 }
 
-// Whether none of the first `top` words is less than one before it.
-fn rises(firsts: &[u16], top: usize) -> bool {
-    let mut i: usize = 0;
-    while i < top {
-        i += 1;
-        if within(firsts, i, 0, get(firsts, i - 1) as u32) != i {
-            return false;
-        }
-    }
-    true
-}
-
-// Whether the first positions keep their rule.
-fn firsts_in_rule(firsts: &[u16], n: u16, m: u16) -> bool {
-    if get(firsts, 0) != 1 {
+// Whether the first positions keep their rule: 1 is the first, one past the edges the last, and none is less than one before it.
+fn are_in_rule(sizes: Sizes, firsts: &[u16]) -> bool {
+    let n = usize::from(sizes.n);
+    let last = firsts.get(n).copied().unwrap_or(0);
+    if firsts.first() != Some(&1) || u32::from(last) != u32::from(sizes.m) + 1 {
         return false;
     }
-    if get(firsts, n as usize) as u32 != m as u32 + 1 {
-        return false;
-    }
-    rises(firsts, n as usize + 1)
+    let mut pairs = firsts.iter().zip(firsts.iter().skip(1)).take(n);
+    pairs.all(|(position, next)| position <= next)
 }
 
-// 4, 5 or 6, or 0.
-fn words_number(q: Query, firsts: &[u16], tails: &[u16]) -> u16 {
-    if q.u == 0 {
-        return 4;
-    }
-    if q.n < q.u {
-        return 4;
-    }
-    if !firsts_in_rule(firsts, q.n, q.m) {
-        return 5;
-    }
-    if within(tails, q.m as usize, 1, q.n as u32) != q.m as usize {
-        return 6;
-    }
-    0
-}
-
-// The number of a query, or 0.
-fn query_number(q: Query, firsts: &[u16], tails: &[u16]) -> u16 {
-    let k = size_number(q.n, q.m);
-    if k != 0 {
-        return k;
-    }
-    if firsts.len() <= q.n as usize {
-        return 3;
-    }
-    if tails.len() < q.m as usize {
-        return 3;
-    }
-    words_number(q, firsts, tails)
-}
-
-// How many of the first `top` positions are of vertex u.
-fn count_positions(d: &Desk, top: usize, u: u16) -> usize {
-    let mut count: usize = 0;
-    let mut i: usize = 0;
-    while i < top {
-        if place_of_position(d, u, i) < SPAN {
-            count = next(count);
+impl Query {
+    // A query by chance: mostly of one of the n vertices, at times of the one past them or of 0.
+    fn draw(seed: u16, sizes: Sizes) -> Query {
+        let n = usize::from(sizes.n);
+        Query {
+            sizes,
+            firsts: draw_length(seed, 17, n + 1),
+            tails: draw_length(seed, 18, usize::from(sizes.m)),
+            u: draw_u(seed, sizes.n),
         }
-        i += 1;
     }
-    count
-}
 
-// Whether the part that is given is not that which is wanted.
-pub(crate) fn part_differs(d: &Desk, q: Query, length: usize) -> bool {
-    let given = edges_out(
-        q.n,
-        q.m,
-        part(d, FIRSTS, q.firsts),
-        part(d, TAILS, q.tails),
-        q.u,
-    );
-    differ(given, part(d, WANT, length))
-}
+    // The number of a query that is refused.
+    fn judge(self, firsts: &[u16], tails: &[u16]) -> Result<(), u16> {
+        self.sizes.judged()?;
+        if firsts.len() <= usize::from(self.sizes.n) || tails.len() < usize::from(self.sizes.m) {
+            return Err(3);
+        }
+        if !self.sizes.has_vertex(self.u) {
+            return Err(4);
+        }
+        if !are_in_rule(self.sizes, firsts) {
+            return Err(5);
+        }
+        if !are_vertices(self.sizes, tails) {
+            return Err(6);
+        }
+        Ok(())
+    }
 
-// The number of a query, and whether the second has another.
-fn numbered(q: Query, firsts: &[u16], tails: &[u16]) -> Outcome {
-    let answer = edges_out_number(q.n, q.m, firsts, tails, q.u);
-    also(answer, answer != query_number(q, firsts, tails))
-}
+    // The tails of the positions of the vertex.
+    fn tails_out(
+        self,
+        alloc: Global,
+        firsts: &[u16],
+        tails: &[u16],
+    ) -> Result<Vec<u16>, AllocError> {
+        let first = of_node(firsts, self.u);
+        let past = firsts.get(usize::from(self.u)).copied().unwrap_or(0);
+        (1..=self.sizes.m)
+            .zip(tails)
+            .filter(|(position, _)| first <= *position && *position < past)
+            .map(|(_, tail)| *tail)
+            .collect(alloc)
+    }
 
-// Whether the part of a query is not that of the first `top` positions.
-fn positions_differ(d: &mut Desk, q: Query, top: usize) -> bool {
-    write(d, WANT, top, POSITIONS, q.u as usize, 0, 0);
-    part_differs(d, q, count_positions(d, top, q.u))
-}
+    // Whether the part that is given is not the one that is wanted.
+    pub(crate) fn part_differs(self, form: &ArrayForm, wanted: &[u16]) -> bool {
+        let given = edges_out(
+            self.sizes.n,
+            self.sizes.m,
+            part(&form.firsts, self.firsts),
+            part(&form.tails, self.tails),
+            self.u,
+        );
+        given != wanted
+    }
 
-// The case of a query: its number and its part against the second. One that is refused has no position.
-pub(crate) fn queried(d: &mut Desk, q: Query) -> Outcome {
-    let o = numbered(q, part(d, FIRSTS, q.firsts), part(d, TAILS, q.tails));
-    let top = if o == 0 { q.m as usize } else { 0 };
-    also(o, positions_differ(d, q, top))
-}
-
-// Draws a sound array form onto the desk.
-pub(crate) fn draw_array(d: &mut Desk, seed: u64, n: u16, m: u16) {
-    draw_pairs(d, seed, n, m as usize, 64);
-    write(d, FIRSTS, n as usize + 1, FIRST_POSITIONS, LISTED, n, m);
-    write(d, TAILS, m as usize, ORDERED_TAILS, LISTED, n, m);
-}
-
-// A query by chance: mostly of one of the n vertices, at times of the one past them or of 0.
-fn draw_query(seed: u64, n: u16, m: u16) -> Query {
-    Query {
-        n,
-        m,
-        firsts: draw_length(seed, 17, n as usize + 1),
-        tails: draw_length(seed, 18, m as usize),
-        u: draw(seed, 19, word(n as u64 + 2)),
+    // The case of a query: its number and its part against the second. One that is refused has no position.
+    pub(crate) fn asked(self, alloc: Global, form: &ArrayForm) -> Result<Outcome, AllocError> {
+        let firsts = part(&form.firsts, self.firsts);
+        let tails = part(&form.tails, self.tails);
+        let first = check_query(self.sizes.n, self.sizes.m, firsts, tails, self.u);
+        let second = self.judge(firsts, tails);
+        let wanted = match second {
+            Ok(()) => self.tails_out(alloc, firsts, tails)?,
+            Err(_) => Vec::new(alloc),
+        };
+        Ok(Outcome::of(first, second).also(self.part_differs(form, &wanted)))
     }
 }
 
-pub(crate) fn sound_case(d: &mut Desk, seed: u64) -> Outcome {
-    draw_array(d, seed, draw_n(seed), draw_m(seed));
-    queried(d, draw_query(seed, draw_n(seed), draw_m(seed)))
+// A vertex by chance: 0, one of the n vertices, or the one past them.
+fn draw_u(seed: u16, n: u16) -> u16 {
+    word(draw_below(seed, 19, usize::from(n) + 2))
 }
 
-fn draw_damaged(d: &mut Desk, seed: u64, n: u16, m: u16) {
-    draw_array(d, seed, n, m);
-    damage(
-        d,
-        other_seed(seed, 1),
-        FIRSTS,
-        one_more(n),
-        word(m as u64 + 2),
-    );
-    damage(d, other_seed(seed, 2), TAILS, m, one_more(n));
+// Sound array forms.
+pub(crate) fn sound_cases(group: &mut Group) -> Result<(), AllocError> {
+    let alloc = group.alloc;
+    let mut form = ArrayForm::new(alloc)?;
+    group.add_draws(0..=1999, |seed| {
+        let sizes = draw_sizes(seed);
+        form.draw(alloc, seed, sizes)?;
+        Query::draw(seed, sizes).asked(alloc, &form)
+    })
 }
 
-pub(crate) fn damaged_case(d: &mut Desk, seed: u64) -> Outcome {
-    draw_damaged(d, seed, draw_n(seed), draw_m(seed));
-    queried(d, draw_query(seed, other_n(seed), other_m(seed)))
+// Damaged array forms.
+pub(crate) fn damaged_cases(group: &mut Group) -> Result<(), AllocError> {
+    let alloc = group.alloc;
+    let mut form = ArrayForm::new(alloc)?;
+    group.add_draws(0..=3999, |seed| {
+        form.draw_damaged(alloc, seed)?;
+        Query::draw(seed, other_sizes(seed)).asked(alloc, &form)
+    })
 }

@@ -1,217 +1,204 @@
 // A second reader of profile texts: an automaton that is fed one byte at a time and has no place in the text.
-use crate::areas::{Desk, FOUND, between, get_byte, put_at, word};
-use crate::calls::loaded;
-use crate::image::size_number;
+use crate::areas::word;
+use crate::calls::Loaded;
+use crate::image::Sizes;
+use crate::listing::Line;
+use crate::writer::{HEAD, NAMES};
+use std::alloc::{AllocError, Global};
 
-// The registers of the reader. A state is the number of what is being read, and a number that is read goes into the register of its
-// state: 1, 2, 3 the values of the second line, 5 from, 6 to; 0 and 4 are the lines of names.
-pub(crate) type Reader = [u64; 10];
-
-const N: usize = 1;
-
-const M: usize = 2;
-
-const START: usize = 3;
-
-const FROM: usize = 5;
-
-const TO: usize = 6;
-
-// The state; out of form it is 7.
-const STATE: usize = 0;
-
-// In a line of names, how many of its bytes were read; in a number, what its digits are worth, and 100,000 for each of them.
-const VALUE: usize = 4;
-
-// How many lines were read, how many of them were kept, and how many have a from or a to that is no vertex.
-const LINES: usize = 7;
-
-const KEPT: usize = 8;
-
-const STRAY: usize = 9;
-
-const NO_DIGIT: u64 = 0;
-
-// More than any number in form.
-const NO_NUMBER: u64 = 1000000;
-
-fn moved(r: &mut Reader, state: u64, value: u64) {
-    r[STATE] = state;
-    r[VALUE] = value;
+// The numbers of a text.
+#[derive(Clone, Copy, PartialEq, Eq)]
+enum Figure {
+    Vertices,
+    Edges,
+    Start,
+    From,
+    To,
 }
 
-// Byte i of the line of names that is read in a state, and how many it has.
-fn name_byte(state: u64, i: usize) -> u8 {
-    if state == 0 {
-        return get_byte(b"elements,references,start\n", i);
-    }
-    get_byte(b"from,to\n", i)
+// What is being read: a line of names, of which so many bytes were read; a number, of which so many digits were read, that are worth so
+// much; nothing more, out of form.
+#[derive(Clone, Copy, PartialEq, Eq)]
+enum State {
+    Head(usize),
+    Names(usize),
+    Number(Figure, u8, u16),
+    OutOfForm,
 }
 
-// A byte of a line of names.
-fn feed_name(r: &mut Reader, b: u8) {
-    let state = r[STATE];
-    let i = r[VALUE];
-    if name_byte(state, i as usize) != b {
-        moved(r, 7, 0);
-        return;
-    }
-    if b == 10 {
-        moved(r, state % 8 + 1, NO_DIGIT);
-        return;
-    }
-    moved(r, state, i % 64 + 1);
+// The state before the first digit of a number.
+fn before(figure: Figure) -> State {
+    State::Number(figure, 0, 0)
 }
 
-// The digits with one more; a sixth, or a worth of more than 65,535, is not in form.
-fn worth(value: u64, digit: u8) -> u64 {
-    let now = value % 100000 * 10 + digit as u64;
-    if 65535 < now {
-        return NO_NUMBER;
-    }
-    value / 100000 % 8 * 100000 + 100000 + now
-}
-
-// A digit of a number.
-fn feed_digit(r: &mut Reader, digit: u8) {
-    let state = r[STATE];
-    let value = worth(r[VALUE], digit);
-    moved(r, if value < 600000 { state } else { 7 }, value);
-}
-
-// Whether a byte may stand behind the number of a state.
-fn is_stop(state: u64, b: u8) -> bool {
-    if state % 3 == 0 {
-        return b == 10;
-    }
-    b == 44
-}
-
-// The state behind that of a number.
-fn follows(state: u64) -> u64 {
-    if state == 6 { 5 } else { state % 8 + 1 }
-}
-
-// The number of a state is read: it goes into its register, and after a to a line is read.
-fn keep(r: &mut Reader, state: u64, value: u64) {
-    let lines = r[LINES] % 1000000;
-    r[state as usize % 7] = value % 100000;
-    r[LINES] = if state == 6 { lines + 1 } else { lines };
-}
-
-// The byte behind a number.
-fn feed_stop(r: &mut Reader, b: u8) {
-    let state = r[STATE];
-    let value = r[VALUE];
-    if value == NO_DIGIT || !is_stop(state, b) {
-        moved(r, 7, 0);
-        return;
-    }
-    keep(r, state, value);
-    moved(r, follows(state), if state == 3 { 0 } else { NO_DIGIT });
-}
-
-// One byte more.
-fn feed(r: &mut Reader, b: u8) {
-    let state = r[STATE];
-    if state == 7 {
-        return;
-    }
-    if state % 4 == 0 {
-        feed_name(r, b);
-        return;
-    }
-    if between(48, b as u32, 57) {
-        feed_digit(r, b % 48);
-        return;
-    }
-    feed_stop(r, b);
-}
-
-fn is_vertex(n: u64, x: u64) -> bool {
-    between(1, word(x) as u32, word(n) as u32)
-}
-
-// Puts the pair of line i + 1 onto the desk.
-fn put_pair(d: &mut Desk, i: usize, from: u64, to: u64) {
-    put_at(d, FOUND, i, word(from));
-    put_at(d, FOUND + 1, i, 0);
-    put_at(d, FOUND + 2, i, word(to));
-}
-
-// Keeps the line that was just read, if one was.
-fn keep_line(d: &mut Desk, r: &mut Reader) {
-    let lines = r[LINES];
-    let kept = r[KEPT];
-    if lines == kept {
-        return;
-    }
-    put_pair(d, kept as usize, r[FROM], r[TO]);
-    r[KEPT] = lines;
-    if !is_vertex(r[N], r[FROM]) || !is_vertex(r[N], r[TO]) {
-        r[STRAY] = 1;
+// The state behind a byte of a line of names.
+fn named(names: &str, read: usize, byte: u8, within: State, behind: State) -> State {
+    if names.as_bytes().get(read) != Some(&byte) {
+        State::OutOfForm
+    } else if byte == b'\n' {
+        behind
+    } else {
+        within
     }
 }
 
-// Reads a text; the pairs of its lines come onto the desk.
-pub(crate) fn read_text(d: &mut Desk, r: &mut Reader, text: &[u8]) {
-    let top = text.len();
-    let mut i: usize = 0;
-    while i < top {
-        feed(r, get_byte(text, i));
-        keep_line(d, r);
-        i += 1;
+// The worth of digits with one more; a sixth, or a worth of more than 65,535, is not in form.
+fn grown(figure: Figure, digits: u8, worth: u16, digit: u8) -> State {
+    let more = worth
+        .checked_mul(10)
+        .and_then(|x| x.checked_add(u16::from(digit)));
+    match more {
+        Some(more) if digits < 5 => State::Number(figure, digits + 1, more),
+        _ => State::OutOfForm,
     }
 }
 
-// Whether the text ended behind its last line.
-fn in_form(r: &Reader) -> bool {
-    if r[STATE] != 5 {
-        return false;
-    }
-    if r[VALUE] != NO_DIGIT {
-        return false;
-    }
-    r[LINES] == r[M]
+// What was read of a text.
+#[derive(Drop)]
+pub(crate) struct Reader {
+    state: State,
+    sizes: Sizes,
+    start: u16,
+    from: u16,
+    lines: Vec<Line>,
 }
 
-// 3, 4 or 6, or 0.
-fn listing_number(r: &Reader, after: usize, tail: usize) -> u16 {
-    if (after as u64) < r[N] % 65536 + r[M] % 65536 {
-        return 3;
+impl Reader {
+    // A number is read, and the byte behind it.
+    fn keep(&mut self, figure: Figure, worth: u16, stop: u8) -> Result<State, AllocError> {
+        Ok(match (figure, stop) {
+            (Figure::Vertices, b',') => {
+                self.sizes.n = worth;
+                before(Figure::Edges)
+            }
+            (Figure::Edges, b',') => {
+                self.sizes.m = worth;
+                before(Figure::Start)
+            }
+            (Figure::Start, b'\n') => {
+                self.start = worth;
+                State::Names(0)
+            }
+            (Figure::From, b',') => {
+                self.from = worth;
+                before(Figure::To)
+            }
+            (Figure::To, b'\n') => {
+                let line = Line {
+                    from: self.from,
+                    rank: 1,
+                    number: word(self.lines.len()).wrapping_add(1),
+                    to: worth,
+                };
+                self.lines.push(line)?;
+                before(Figure::From)
+            }
+            _ => State::OutOfForm,
+        })
     }
-    if (tail as u64) < r[M] {
-        return 3;
+
+    // The state behind one byte more.
+    fn fed(&mut self, byte: u8) -> Result<State, AllocError> {
+        Ok(match self.state {
+            State::Head(read) => named(
+                HEAD,
+                read,
+                byte,
+                State::Head(read.wrapping_add(1)),
+                before(Figure::Vertices),
+            ),
+            State::Names(read) => named(
+                NAMES,
+                read,
+                byte,
+                State::Names(read.wrapping_add(1)),
+                before(Figure::From),
+            ),
+            State::Number(figure, digits, worth) => match byte {
+                b'0'..=b'9' => grown(figure, digits, worth, byte - b'0'),
+                _ if digits == 0 => State::OutOfForm,
+                _ => self.keep(figure, worth, byte)?,
+            },
+            State::OutOfForm => State::OutOfForm,
+        })
     }
-    if !is_vertex(r[N], r[START]) {
-        return 4;
+
+    // Reads a text.
+    fn read(alloc: Global, text: &[u8]) -> Result<Reader, AllocError> {
+        let mut reader = Reader {
+            state: State::Head(0),
+            sizes: Sizes { n: 0, m: 0 },
+            start: 0,
+            from: 0,
+            lines: Vec::new(alloc),
+        };
+        for byte in text {
+            reader.state = reader.fed(*byte)?;
+        }
+        Ok(reader)
     }
-    if r[STRAY] != 0 {
-        return 6;
+
+    // Whether the text ended behind its last line.
+    fn is_in_form(&self) -> bool {
+        self.state == before(Figure::From) && self.lines.len() == usize::from(self.sizes.m)
     }
-    0
+
+    // What is said of the text of `length` bytes, with areas of these lengths.
+    fn judge(&self, length: usize, after: usize, tail: usize) -> Result<Loaded, u16> {
+        let sizes = self.sizes;
+        if 65536 < length {
+            return Err(13);
+        }
+        if !self.is_in_form() {
+            return Err(12);
+        }
+        sizes.judged()?;
+        if after < sizes.nodes() || tail < usize::from(sizes.m) {
+            return Err(3);
+        }
+        if !sizes.has_vertex(self.start) {
+            return Err(4);
+        }
+        let mut lines = self.lines.iter();
+        if !lines.all(|line| sizes.has_vertex(line.from) && sizes.has_vertex(line.to)) {
+            return Err(6);
+        }
+        Ok(Loaded {
+            sizes,
+            start: self.start,
+        })
+    }
 }
 
-// The number of a text of `length` bytes, with areas of these lengths, or 0.
-fn text_number(r: &Reader, length: usize, after: usize, tail: usize) -> u16 {
-    if 65536 < length {
-        return 13;
-    }
-    if !in_form(r) {
-        return 12;
-    }
-    let k = size_number(word(r[N]), word(r[M]));
-    if k != 0 {
-        return k;
-    }
-    listing_number(r, after, tail)
+// What the second reader says of a text, and the lines of one that it takes.
+#[derive(Drop)]
+pub(crate) struct Said {
+    pub(crate) answer: Result<Loaded, u16>,
+    pub(crate) lines: Vec<Line>,
 }
 
-// What is said of the text.
-pub(crate) fn judged(r: &Reader, length: usize, after: usize, tail: usize) -> u64 {
-    let number = text_number(r, length, after, tail);
-    if number != 0 {
-        return number as u64;
+impl Said {
+    // The sizes of a text that is taken; none of one that is refused.
+    pub(crate) fn sizes(&self) -> Sizes {
+        match self.answer {
+            Ok(loaded) => loaded.sizes,
+            Err(_) => Sizes { n: 0, m: 0 },
+        }
     }
-    loaded(word(r[N]), word(r[M]), word(r[START]))
+}
+
+// Reads a text, with areas of these lengths.
+pub(crate) fn read_text(
+    alloc: Global,
+    text: &[u8],
+    of_after: usize,
+    of_tail: usize,
+) -> Result<Said, AllocError> {
+    let reader = Reader::read(alloc, text)?;
+    let answer = reader.judge(text.len(), of_after, of_tail);
+    let lines = match answer {
+        Ok(_) => reader.lines,
+        Err(_) => Vec::new(alloc),
+    };
+    Ok(Said { answer, lines })
 }

@@ -1,83 +1,68 @@
 // The line of a refusal, of every number into exactly the bytes that it needs, and into none, fewer and more: its answer and every byte of
 // the area, lent or not, against the second writer.
-use crate::areas::{Text, first_bytes, lent_bytes, next, word};
-use crate::calls::{refusal_line, reported};
-use crate::chance::draw;
+use crate::areas::{BLANK, holds, lent};
+use crate::calls::refusal_line;
+use crate::chance::draw_below;
 use crate::digits::draw_number;
-use crate::printed::{BLANK, output_differs, put_refusal};
-use crate::tally::{Outcome, also, expected};
+use crate::tally::{Group, Outcome};
+use std::alloc::{AllocError, Global};
 
-// The case of a number and the first `room` bytes of an area; its line comes into the text.
-fn printed(text: &mut Text, number: u16, room: usize) -> Outcome {
-    let mut output = [BLANK; 20];
-    let first = refusal_line(number, lent_bytes(&mut output, room));
-    let length = put_refusal(text, number);
-    let short = room < length;
-    let bytes = if short { 0 } else { length };
-    let differs = output_differs(&output, text, bytes);
-    let second = reported(if short { 3 } else { 0 }, bytes);
-    also(word(first), differs || first != second)
+// The line of a refusal.
+fn line(alloc: Global, number: u16) -> Result<String, AllocError> {
+    format!(in alloc; "refused,{number}\n")
 }
 
-// One of the numbers from 0 to 65,535.
-pub(crate) fn number_case(text: &mut Text, i: usize) -> Outcome {
-    let number = word(i as u64);
-    let length = put_refusal(text, number);
-    expected(printed(text, number, length), 0)
+// The case of a number and the first `room` bytes of an area.
+fn printed(alloc: Global, number: u16, room: usize) -> Result<Outcome, AllocError> {
+    let mut output = [BLANK; 20];
+    let first = refusal_line(number, lent(&mut output, room));
+    let line = line(alloc, number)?;
+    let second = if room < line.len() {
+        Err(3)
+    } else {
+        Ok(line.len())
+    };
+    let wanted = if second.is_ok() { line.as_str() } else { "" };
+    let holds = holds(&output, wanted.as_bytes(), BLANK);
+    Ok(Outcome::of(first, second).also(!holds))
+}
+
+// Each number from 0 to 65,535.
+pub(crate) fn number_cases(group: &mut Group) -> Result<(), AllocError> {
+    let alloc = group.alloc;
+    group.add_draws(0..=u16::MAX, |number| {
+        let room = line(alloc, number)?.len();
+        Ok(printed(alloc, number, room)?.expected(0))
+    })
 }
 
 // Document 01's example.
-fn example_case(text: &mut Text) -> Outcome {
-    let o = printed(text, 6, 10);
-    let differs = output_differs(first_bytes(text, 10), b"refused,6\n", 10);
-    also(expected(o, 0), differs)
+fn example_case(alloc: Global) -> Result<Outcome, AllocError> {
+    let differs = line(alloc, 6)?.as_str() != "refused,6\n";
+    Ok(printed(alloc, 6, 10)?.expected(0).also(differs))
 }
 
 // The least and the greatest number of each length.
-fn limit(i: usize) -> u16 {
-    match i {
-        0 => 0,
-        1 => 9,
-        2 => 10,
-        3 => 99,
-        4 => 100,
-        5 => 999,
-        6 => 1000,
-        7 => 9999,
-        8 => 10000,
-        _ => 65535,
-    }
-}
+const LIMITS: [u16; 10] = [0, 9, 10, 99, 100, 999, 1000, 9999, 10000, 65535];
 
-fn less_one(i: usize) -> usize {
-    if i == 0 { 0 } else { i - 1 }
-}
-
-// No byte, one less than the line has, one more, and the whole area.
-fn room_for(length: usize, i: usize) -> usize {
-    match i {
-        0 => 0,
-        1 => less_one(length),
-        2 => next(length),
-        _ => 20,
-    }
-}
-
-fn limit_case(text: &mut Text, i: usize) -> Outcome {
-    let number = limit(i % 10);
-    let length = put_refusal(text, number);
-    let o = printed(text, number, room_for(length, i / 10));
-    expected(o, if i < 20 { 3 } else { 0 })
+// The case of a limit, with no byte, with one less than the line has, with one more, and with the whole area.
+fn limit_cases(group: &mut Group, number: u16) -> Result<(), AllocError> {
+    let alloc = group.alloc;
+    let length = line(alloc, number)?.len();
+    group.add(printed(alloc, number, 0)?.expected(3))?;
+    group.add(printed(alloc, number, length.saturating_sub(1))?.expected(3))?;
+    group.add(printed(alloc, number, length.saturating_add(1))?.expected(0))?;
+    group.add(printed(alloc, number, 20)?.expected(0))
 }
 
 // The example and the limits, then numbers and rooms by chance.
-pub(crate) fn room_case(text: &mut Text, i: usize) -> Outcome {
-    if i == 0 {
-        return example_case(text);
+pub(crate) fn room_cases(group: &mut Group) -> Result<(), AllocError> {
+    let alloc = group.alloc;
+    group.add(example_case(alloc)?)?;
+    for number in LIMITS {
+        limit_cases(group, number)?;
     }
-    if i < 41 {
-        return limit_case(text, i - 1);
-    }
-    let seed = i as u64 - 41;
-    printed(text, draw_number(seed), draw(seed, 70, 20) as usize)
+    group.add_draws(0..=3999, |seed| {
+        printed(alloc, draw_number(seed), draw_below(seed, 70, 20))
+    })
 }

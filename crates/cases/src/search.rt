@@ -1,130 +1,154 @@
-// A second depth-first search, over the pairs of the lines that were read: a stack of vertices, and with each how many lines were looked
-// through for it, of which the last is the one last taken. Events are listed on the desk, and counted, as they are made.
-use crate::areas::{
-    COUNTS, Desk, FOUND, LABELS, LINES, SPAN, STACK, get_at, of_node, part, place_of, put_at,
-    put_event, store, word,
-};
-use crate::listing::edge;
+// A second depth-first search, over the lines that were read: a stack of vertices, and with each how many lines were looked through for
+// it, of which the last is the one last taken. Events are listed, and moves counted, as they are made.
+use crate::areas::{of_node, put};
+use crate::image::Sizes;
+use crate::listing::Line;
+use crate::reader::Said;
+use std::alloc::{AllocError, Global};
 
-// What is counted: vertices being scanned, words of events, vertices labelled, moves; and 1 where an edge led to a vertex on the stack.
-const DEPTH: usize = 0;
-
-pub(crate) const WORDS: usize = 1;
-
-pub(crate) const LABELLED: usize = 2;
-
-pub(crate) const MOVES: usize = 3;
-
-pub(crate) const CIRCULAR: usize = 4;
-
-fn raise(d: &mut Desk, count: usize, by: u16) {
-    let w = get_at(d, COUNTS, count);
-    put_at(d, COUNTS, count, word(w as u64 + by as u64));
+// What an event tells, by its number in document 01.
+#[derive(Clone, Copy)]
+enum Kind {
+    Labelled = 1,
+    Taken = 2,
+    Met = 3,
+    Returned = 4,
+    LeftBy = 5,
+    Left = 6,
 }
 
-fn emit(d: &mut Desk, kind: u16, edge: u16, u: u16) {
-    let i = get_at(d, COUNTS, WORDS) as usize;
-    put_event(d, i, kind);
-    put_event(d, i + 1, edge);
-    put_event(d, i + 2, u);
-    raise(d, WORDS, 3);
+// An event: the edge that it is of, or 0, and the vertex.
+#[derive(Clone, Copy)]
+pub(crate) struct Event {
+    kind: Kind,
+    edge: u16,
+    vertex: u16,
 }
 
-// Labels x with the next number and puts it into place k of the stack. One move.
-fn push(d: &mut Desk, k: u16, x: u16) {
-    put_at(d, COUNTS, DEPTH, k);
-    put_at(d, STACK, k as usize, x);
-    put_at(d, LINES, k as usize, 0);
-    raise(d, MOVES, 1);
-    raise(d, LABELLED, 1);
-    let place = (x as usize + 65535) % 65536;
-    put_at(d, LABELS, place, get_at(d, COUNTS, LABELLED));
-    emit(d, 1, 0, x);
-}
-
-// Whether x is in the first k places of the stack. Its place 0 holds no vertex.
-fn is_on_stack(d: &Desk, k: u16, x: u16) -> bool {
-    let top = k as usize + 1;
-    place_of(part(d, STACK, top), top, x) < top
-}
-
-// Takes the edge e from u, which is in place k of the stack, to x. Two moves.
-fn take(d: &mut Desk, k: u16, e: u16, u: u16, x: u16) {
-    raise(d, MOVES, 2);
-    if of_node(part(d, LABELS, SPAN), x) == 0 {
-        emit(d, 2, e, u);
-        push(d, k % 65535 + 1, x);
-        return;
-    }
-    emit(d, 3, e, u);
-    emit(d, 4, e, u);
-    if is_on_stack(d, k, x) {
-        put_at(d, COUNTS, CIRCULAR, 1);
+impl Event {
+    // The words of an event.
+    pub(crate) fn words(self) -> [u16; 3] {
+        [self.kind as u16, self.edge, self.vertex]
     }
 }
 
-// Leaves u for the vertex in place k of the stack, if there is one, by the edge of the line last taken.
-fn leave(d: &mut Desk, n: u16, k: u16, u: u16) {
-    emit(d, 6, 0, u);
-    put_at(d, COUNTS, DEPTH, k);
-    if k == 0 {
-        return;
-    }
-    let line = get_at(d, LINES, k as usize) as u64;
-    emit(d, 5, word(n as u64 + line), get_at(d, STACK, k as usize));
+// A vertex being scanned, and how many lines were looked through for it.
+#[derive(Clone, Copy)]
+struct Visit {
+    vertex: u16,
+    seen: u16,
 }
 
-// The first line from u, counted from 0, that is not among the first `seen`; or m.
-fn line_from(d: &Desk, u: u16, seen: usize, m: usize) -> usize {
-    if m <= seen {
-        return m;
+// What is counted: vertices labelled, moves, and whether an edge led to a vertex on the stack.
+#[derive(Clone, Copy, PartialEq, Eq)]
+pub(crate) struct Counts {
+    pub(crate) labelled: u16,
+    pub(crate) moves: u16,
+    pub(crate) circular: bool,
+}
+
+// A search: where it is, the labels of the nodes, and what it made.
+#[derive(Drop)]
+pub(crate) struct Search {
+    n: u16,
+    stack: Vec<Visit>,
+    pub(crate) labels: Vec<u16>,
+    pub(crate) events: Vec<Event>,
+    pub(crate) counts: Counts,
+}
+
+impl Search {
+    // A search that has made nothing.
+    fn new(alloc: Global, sizes: Sizes) -> Result<Search, AllocError> {
+        let labels = vec![in alloc; 0u16; sizes.nodes()]?;
+        Ok(Search {
+            n: sizes.n,
+            stack: Vec::new(alloc),
+            labels,
+            events: Vec::new(alloc),
+            counts: Counts {
+                labelled: 0,
+                moves: 0,
+                circular: false,
+            },
+        })
     }
-    let mut i = seen;
-    while i < m {
-        if get_at(d, FOUND, i) == u {
-            return i;
+
+    // Lists an event.
+    fn emit(&mut self, kind: Kind, edge: u16, vertex: u16) -> Result<(), AllocError> {
+        let event = Event { kind, edge, vertex };
+        self.events.push(event)?;
+        Ok(())
+    }
+
+    // Counts moves.
+    fn move_by(&mut self, moves: u16) {
+        self.counts.moves = self.counts.moves.wrapping_add(moves);
+    }
+
+    // Labels a vertex with the next number and puts it onto the stack. One move.
+    fn push(&mut self, vertex: u16) -> Result<(), AllocError> {
+        self.move_by(1);
+        let label = self.counts.labelled.wrapping_add(1);
+        self.counts.labelled = label;
+        put(&mut self.labels, usize::from(vertex).wrapping_sub(1), label);
+        self.stack.push(Visit { vertex, seen: 0 })?;
+        self.emit(Kind::Labelled, 0, vertex)
+    }
+
+    // Takes an edge from a vertex to another. Two moves.
+    fn take(&mut self, edge: u16, from: u16, to: u16) -> Result<(), AllocError> {
+        self.move_by(2);
+        if of_node(&self.labels, to) == 0 {
+            self.emit(Kind::Taken, edge, from)?;
+            return self.push(to);
         }
-        i += 1;
+        self.emit(Kind::Met, edge, from)?;
+        self.emit(Kind::Returned, edge, from)?;
+        if self.stack.iter().any(|visit| visit.vertex == to) {
+            self.counts.circular = true;
+        }
+        Ok(())
     }
-    m
+
+    // Leaves a vertex for the one below it on the stack, if there is one, by the edge of the line last taken.
+    fn leave(&mut self, vertex: u16) -> Result<(), AllocError> {
+        self.emit(Kind::Left, 0, vertex)?;
+        match self.stack.last().copied() {
+            Some(below) => {
+                let edge = self.n.wrapping_add(below.seen);
+                self.emit(Kind::LeftBy, edge, below.vertex)
+            }
+            None => Ok(()),
+        }
+    }
+
+    // One turn of the search, as long as there is one.
+    fn turn(&mut self, lines: &[Line]) -> Result<(), AllocError> {
+        let Some(Visit { vertex, seen }) = self.stack.pop() else {
+            return Ok(());
+        };
+        let mut unseen = lines.iter().skip(usize::from(seen));
+        match unseen.find(|line| line.from == vertex).copied() {
+            Some(line) => {
+                let seen = line.number;
+                self.stack.push(Visit { vertex, seen })?;
+                self.take(self.n.wrapping_add(line.number), vertex, line.to)
+            }
+            None => self.leave(vertex),
+        }
+    }
 }
 
-// One turn of the search, as long as there is one.
-fn turn(d: &mut Desk, n: u16, m: u16) {
-    let k = get_at(d, COUNTS, DEPTH);
-    if k == 0 {
-        return;
+// The search of a text that is taken, in which each edge is taken once and each vertex left once; of one that is refused, nothing.
+pub(crate) fn search_lines(alloc: Global, said: &Said) -> Result<Search, AllocError> {
+    let sizes = said.sizes();
+    let mut search = Search::new(alloc, sizes)?;
+    if let Ok(loaded) = said.answer {
+        search.push(loaded.start)?;
     }
-    let u = get_at(d, STACK, k as usize);
-    let seen = get_at(d, LINES, k as usize) as usize;
-    let i = line_from(d, u, seen, m as usize);
-    if i < m as usize {
-        put_at(d, LINES, k as usize, edge(0, i));
-        take(d, k, edge(n, i), u, get_at(d, FOUND + 2, i));
-        return;
+    for _ in 0..sizes.nodes() {
+        search.turn(&said.lines)?;
     }
-    leave(d, n, k - 1, u);
-}
-
-// Nothing is labelled and nothing counted.
-fn clear(d: &mut Desk) {
-    let zeros = [0u16; SPAN];
-    put_at(d, STACK, 0, 0);
-    store(d, LABELS, &zeros);
-    store(d, COUNTS, &zeros);
-}
-
-// The search of the pairs on the desk, of which each is taken once and each vertex left once; of sizes 0, no event.
-pub(crate) fn search(d: &mut Desk, n: u16, m: u16, start: u16) {
-    clear(d);
-    if n == 0 {
-        return;
-    }
-    push(d, 1, start);
-    let top = n as usize + m as usize;
-    let mut i: usize = 0;
-    while i < top {
-        turn(d, n, m);
-        i += 1;
-    }
+    Ok(search)
 }

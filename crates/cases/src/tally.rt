@@ -1,46 +1,111 @@
 // What the cases gave, counted and printed.
-use crate::areas::next;
+use std::alloc::{AllocError, Global};
 use std::io;
+use std::ops::RangeInclusive;
 
-// The outcome of a case is one number: what the call answered, as a number of document 01 (0: taken), and 100 more where that, or a
-// lent word, is not what the second implementation says.
-pub(crate) type Outcome = u16;
-
-// An outcome in which something else may differ.
-pub(crate) fn also(o: Outcome, differs: bool) -> Outcome {
-    if differs { 100 + o % 100 } else { o }
+// The outcome of a case: what the call answered, as a number of document 01 (0: taken), and whether that, or a lent word, is not what
+// the second implementation says.
+#[derive(Clone, Copy, PartialEq, Eq)]
+pub(crate) struct Outcome {
+    pub(crate) answer: u16,
+    pub(crate) differs: bool,
 }
 
-// An outcome that is to have the answer k too.
-pub(crate) fn expected(o: Outcome, k: u16) -> Outcome {
-    also(o, o % 100 != k)
-}
+impl Outcome {
+    // The outcome of a call's answer, set beside what the second implementation says.
+    pub(crate) fn of<T: PartialEq + Drop>(
+        first: Result<T, u16>,
+        second: Result<T, u16>,
+    ) -> Outcome {
+        let differs = first != second;
+        Outcome {
+            answer: first.err().unwrap_or(0),
+            differs,
+        }
+    }
 
-// How many cases answered each number from 0 to 13, how many there are, and how many differ.
-pub(crate) type Tally = [usize; 16];
+    // The outcome in which something else may differ.
+    pub(crate) fn also(self, differs: bool) -> Outcome {
+        Outcome {
+            answer: self.answer,
+            differs: self.differs || differs,
+        }
+    }
 
-fn add(t: &mut Tally, i: usize) {
-    if i < 16 {
-        let x = t[i];
-        t[i] = next(x);
+    // The outcome that is to have this answer too.
+    pub(crate) fn expected(self, answer: u16) -> Outcome {
+        self.also(self.answer != answer)
     }
 }
 
-pub(crate) fn count(t: &mut Tally, o: Outcome) {
-    let k = o % 100;
-    add(t, 14);
-    add(t, if k < 14 { k as usize } else { 16 });
-    add(t, if 100 <= o { 15 } else { 16 });
+// A group of cases: its name, and what its cases gave.
+#[derive(Drop)]
+pub(crate) struct Group {
+    pub(crate) alloc: Global,
+    outcomes: Vec<Outcome>,
 }
 
-// One line: the name, the cases, those that differ, and how many answered each number.
-pub(crate) fn print_tally(rt: &impl Print, name: &[u8], t: &Tally) -> io::Result<()> {
-    rt.write_all(name)?;
-    let mut i: usize = 0;
-    while i < 16 {
-        let x = t[(i + 14) % 16];
-        print!(rt; ",{x}")?;
-        i += 1;
+impl Group {
+    // Adds what a case gave.
+    pub(crate) fn add(&mut self, outcome: Outcome) -> Result<(), AllocError> {
+        self.outcomes.push(outcome)?;
+        Ok(())
     }
-    rt.write_all(b"\n")
+
+    // Adds the case of each row of a table.
+    pub(crate) fn add_rows<T, F: FnMut(&T) -> Result<Outcome, AllocError>>(
+        &mut self,
+        rows: &[T],
+        mut case: F,
+    ) -> Result<(), AllocError>
+        requires { F.IsAlwaysCallable case }
+    {
+        for row in rows {
+            self.add(case(row)?)?;
+        }
+        Ok(())
+    }
+
+    // Adds the case of each seed.
+    pub(crate) fn add_draws<F: FnMut(u16) -> Result<Outcome, AllocError>>(
+        &mut self,
+        seeds: RangeInclusive<u16>,
+        mut case: F,
+    ) -> Result<(), AllocError>
+        requires { F.IsAlwaysCallable case }
+    {
+        for seed in seeds {
+            self.add(case(seed)?)?;
+        }
+        Ok(())
+    }
+}
+
+// Prints one line of a group's outcomes: the name, the cases, those that differ, and how many answered each number.
+fn print_outcomes(rt: &impl Print, name: &str, outcomes: &[Outcome]) -> io::Result<()> {
+    let cases = outcomes.len();
+    let differing = outcomes.iter().filter(|o| o.differs).count();
+    print!(rt; "{name},{cases},{differing}")?;
+    for number in 0..14u16 {
+        let answered = outcomes.iter().filter(|o| o.answer == number).count();
+        print!(rt; ",{answered}")?;
+    }
+    print!(rt; "\n")
+}
+
+// Runs the cases of a group, and prints what they gave.
+pub(crate) fn print_group<F: FnOnce(&mut Group) -> Result<(), AllocError>>(
+    rt: &(impl Print + AllocGlobal),
+    name: &str,
+    cases: F,
+) -> io::Result<()>
+    requires { F.IsAlwaysCallable cases }
+{
+    let alloc = rt.alloc();
+    let mut group = Group {
+        alloc,
+        outcomes: Vec::new(alloc),
+    };
+    cases(&mut group)?;
+    print_outcomes(rt, name, &group.outcomes)
 }

@@ -1,159 +1,179 @@
 // Texts whose walk is written down, or whose number: document 01's example, as it stands and padded, the rows of the table of texts, a
 // chain of 1,000 vertices, a ring of them and the longest walk, profiles with a circle and without, areas that are too short and outputs
 // as short as the line of a refusal.
-use crate::areas::{
-    COUNTS, Desk, LISTED, SPAN, Text, differ, first_bytes, get_at, next, part, put_at,
-};
-use crate::listing::edge;
-use crate::printed::{output_differs, put_walk};
-use crate::search::{CIRCULAR, LABELLED, MOVES};
-use crate::tally::{Outcome, also, expected};
-use crate::text_rows::{draw_row, row_number};
-use crate::walked::walked;
-use crate::writer::{UNPADDED, Written, put_names, put_text};
+use crate::listing::Line;
+use crate::profiles::Spoilt;
+use crate::search::Counts;
+use crate::tally::{Group, Outcome};
+use crate::text_rows::{Row, at_limit, rows, values, with_spoilt, with_value};
+use crate::walked::{AREAS, Area, Lent, compare_walk};
+use crate::writer::{HEAD, Replaced, UNPADDED, Written};
+use std::alloc::{AllocError, Global};
+
+// The printed profile, and the same with five digits a number.
+const PROFILES: [&[u8]; 2] = [
+    b"elements,references,start\n3,4,1\nfrom,to\n1,2\n1,3\n2,3\n3,1\n",
+    b"elements,references,start\n00003,00004,00001\nfrom,to\n00001,00002\n00001,00003\n00002,00003\n00003,00001\n",
+];
+
+// What is printed of the printed profile.
+const PRINTED: &str =
+    "event,reference,element\n1,0,1\n2,4,1\n1,0,2\n2,6,2\n1,0,3\n3,7,3\n4,7,3\n6,0,3\n5,6,2\n6,0,2\n5,4,1\n3,5,1\n4,5,1\n6,0,1\nelements,moves,circular\n3,11,1\n";
 
 // A text of the printed profile, with the bytes that are printed of it.
-fn printed_case(d: &mut Desk, text: &mut Text, profile: &[u8]) -> Outcome {
-    let length = put_names(text, 0, profile);
-    let o = walked(d, text, length, 5, 0);
-    let bytes = put_walk(text, d);
-    let differs = output_differs(
-        first_bytes(text, bytes),
-        b"event,reference,element\n1,0,1\n2,4,1\n1,0,2\n2,6,2\n1,0,3\n3,7,3\n4,7,3\n6,0,3\n5,6,2\n6,0,2\n5,4,1\n3,5,1\n4,5,1\n6,0,1\nelements,moves,circular\n3,11,1\n",
-        139,
-    );
-    also(expected(o, 0), bytes != 139 || differs)
+fn printed_case(alloc: Global, profile: &[u8]) -> Result<Outcome, AllocError> {
+    let walked = compare_walk(alloc, profile, Lent::ALL)?;
+    let differs = walked.printed.as_str() != PRINTED;
+    Ok(walked.outcome.expected(0).also(differs))
 }
 
-// The pairs of a chain: 1 to 2, 2 to 3 and on, and from 1,000 to 1 again.
-pub(crate) fn put_chain(d: &mut Desk, top: usize) {
-    let mut i: usize = 0;
-    while i < top {
-        put_at(d, LISTED, i, edge(0, i % 1000));
-        put_at(d, LISTED + 2, i, edge(0, next(i) % 1000));
-        i += 1;
-    }
+// The lines of a chain: 1 to 2, 2 to 3 and on, and from 1,000 to 1 again.
+pub(crate) fn chain(alloc: Global, lines: u16) -> Result<Vec<Line>, AllocError> {
+    (1..=lines)
+        .map(|number| Line {
+            from: (number.wrapping_sub(1)) % 1000 + 1,
+            rank: 1,
+            number,
+            to: number % 1000 + 1,
+        })
+        .collect(alloc)
 }
 
-// The text of m edges between 1,000 vertices, with every digit from the power `least` down.
-pub(crate) fn between_all(m: u16, least: u64) -> Written {
+// The text of m edges between 1,000 vertices, each number with so many digits at least.
+pub(crate) fn between_all(m: u16, width: usize) -> Written {
     Written {
         n: 1000,
-        m: m as u64,
+        m: u32::from(m),
         start: 1,
-        lines: m as usize,
-        from_at: SPAN,
-        to_at: SPAN,
-        value: 0,
-        least,
+        lines: m,
+        replaced: Replaced::Nothing,
+        width,
     }
 }
 
-// The first m pairs of the chain between 1,000 vertices, with what is counted: event words, vertices reached, moves, circular.
-fn chain_case(d: &mut Desk, text: &mut Text, m: u16, counts: &[u16]) -> Outcome {
-    put_chain(d, m as usize);
-    let length = put_text(text, 0, between_all(m, UNPADDED), d);
-    let o = walked(d, text, length, 5, 0);
-    also(expected(o, 0), differ(part(d, COUNTS, 5), counts))
+// What a walk counts.
+fn counted(labelled: u16, moves: u16, circular: bool) -> Counts {
+    Counts {
+        labelled,
+        moves,
+        circular,
+    }
 }
 
-// A text, from its first values on, with the vertices reached, the moves and the circular figure.
-fn told_case(
-    d: &mut Desk,
-    text: &mut Text,
-    values: &[u8],
-    reached: u16,
+// The first m edges of the chain between 1,000 vertices, with its event words and what is counted.
+fn chain_case(alloc: Global, m: u16, events: usize, counts: Counts) -> Result<Outcome, AllocError> {
+    let listing = chain(alloc, m)?;
+    let text = between_all(m, UNPADDED).text(alloc, &listing)?;
+    let walked = compare_walk(alloc, text.as_bytes(), Lent::ALL)?;
+    let differs = walked.events != events || walked.counts != counts;
+    Ok(walked.outcome.expected(0).also(differs))
+}
+
+// A profile, from its first values on, with what is counted.
+struct Told {
+    values: &'static str,
+    labelled: u16,
     moves: u16,
-    circular: u16,
-) -> Outcome {
-    let at = put_names(text, 0, b"elements,references,start\n");
-    let length = put_names(text, at, values);
-    let o = walked(d, text, length, 5, 0);
-    let differs = get_at(d, COUNTS, LABELLED) != reached || get_at(d, COUNTS, MOVES) != moves;
-    also(
-        expected(o, 0),
-        differs || get_at(d, COUNTS, CIRCULAR) != circular,
-    )
+    circular: bool,
 }
 
 // Profiles without a circle that is reached: two edges to a vertex, that leave two vertices or one; a circle that is not reached. Then
 // with one: a loop; two vertices; two vertices that the start is none of.
-fn circle_case(d: &mut Desk, text: &mut Text, i: usize) -> Outcome {
-    match i {
-        0 => told_case(d, text, b"3,3,1\nfrom,to\n1,2\n1,3\n2,3\n", 3, 9, 0),
-        1 => told_case(d, text, b"2,2,1\nfrom,to\n1,2\n1,2\n", 2, 6, 0),
-        2 => told_case(d, text, b"3,2,1\nfrom,to\n2,3\n3,2\n", 1, 1, 0),
-        3 => told_case(d, text, b"1,1,1\nfrom,to\n1,1\n", 1, 3, 1),
-        4 => told_case(d, text, b"2,2,1\nfrom,to\n1,2\n2,1\n", 2, 6, 1),
-        _ => told_case(d, text, b"3,3,1\nfrom,to\n1,2\n2,3\n3,2\n", 3, 9, 1),
+#[rattlefmt::skip]
+const TOLD: [Told; 6] = [
+    Told { values: "3,3,1\nfrom,to\n1,2\n1,3\n2,3\n", labelled: 3, moves: 9, circular: false },
+    Told { values: "2,2,1\nfrom,to\n1,2\n1,2\n", labelled: 2, moves: 6, circular: false },
+    Told { values: "3,2,1\nfrom,to\n2,3\n3,2\n", labelled: 1, moves: 1, circular: false },
+    Told { values: "1,1,1\nfrom,to\n1,1\n", labelled: 1, moves: 3, circular: true },
+    Told { values: "2,2,1\nfrom,to\n1,2\n2,1\n", labelled: 2, moves: 6, circular: true },
+    Told { values: "3,3,1\nfrom,to\n1,2\n2,3\n3,2\n", labelled: 3, moves: 9, circular: true },
+];
+
+// The case of a profile with what is counted.
+fn told_case(alloc: Global, told: &Told) -> Result<Outcome, AllocError> {
+    let mut text = String::from_str(alloc, HEAD)?;
+    text.push_str(told.values)?;
+    let walked = compare_walk(alloc, text.as_bytes(), Lent::ALL)?;
+    let counts = counted(told.labelled, told.moves, told.circular);
+    Ok(walked.outcome.expected(0).also(walked.counts != counts))
+}
+
+// The text of a row of the table of texts, with the number that it is to be answered with.
+fn row_case(alloc: Global, row: &Row, lengths: Lent, number: u16) -> Result<Outcome, AllocError> {
+    let text = row.text(alloc)?;
+    Ok(
+        compare_walk(alloc, &text, lengths)?
+            .outcome
+            .expected(number),
+    )
+}
+
+// The rows of the table of texts, as they are answered there. An area is as long as stated, or one word shorter where the answer is 3.
+fn text_cases(group: &mut Group) -> Result<(), AllocError> {
+    let alloc = group.alloc;
+    let rows = rows(alloc)?;
+    for (row, area) in rows.iter().zip(AREAS.iter().cycle()) {
+        let lengths = Lent {
+            one: Some(*area),
+            less: if row.number == 3 { 1 } else { 0 },
+        };
+        group.add(row_case(alloc, row, lengths, row.number)?)?;
     }
+    Ok(())
 }
 
-// The text of row i of the table of texts, with the number that it is to be answered with.
-fn row_case(d: &mut Desk, text: &mut Text, i: usize, one: usize, less: usize, k: u16) -> Outcome {
-    let length = draw_row(d, text, i);
-    expected(walked(d, text, length, one, less), k)
+// One area so many words short, in turn.
+fn short_cases(group: &mut Group, row: &Row, less: usize, number: u16) -> Result<(), AllocError> {
+    let alloc = group.alloc;
+    for area in AREAS {
+        let lengths = Lent {
+            one: Some(area),
+            less,
+        };
+        group.add(row_case(alloc, row, lengths, number)?)?;
+    }
+    Ok(())
 }
 
-// A row of the table of texts, as it is answered there. An area is as long as stated, or one word shorter where the answer is 3.
-fn text_case(d: &mut Desk, text: &mut Text, i: usize) -> Outcome {
-    let k = row_number(i);
-    row_case(d, text, i, i % 5, if k == 3 { 1 } else { 0 }, k)
+// Outputs of 12 to 8 bytes, some with room for the line of the refusal: it is not printed.
+fn output_cases(group: &mut Group, row: &Row, number: u16) -> Result<(), AllocError> {
+    let alloc = group.alloc;
+    for less in 180054..180059usize {
+        let lengths = Lent {
+            one: Some(Area::Output),
+            less,
+        };
+        group.add(row_case(alloc, row, lengths, number)?)?;
+    }
+    Ok(())
 }
 
 // One area one word short: 3, but behind 12 and 1 and before 4 and 6; at the limits, with the area as long as stated too. Then
-// outputs of 12 to 8 bytes, some with room for the line of the refusal: it is not printed.
-fn short_case(d: &mut Desk, text: &mut Text, i: usize) -> Outcome {
-    let one = i % 5;
-    match i / 5 {
-        0 => row_case(d, text, 1, one, 1, 3),
-        1 => row_case(d, text, 19, one, 1, 12),
-        2 => row_case(d, text, 3, one, 1, 1),
-        3 => row_case(d, text, 10, one, 1, 3),
-        4 => row_case(d, text, 12, one, 1, 3),
-        5 => row_case(d, text, 39, one, 1, 3),
-        6 => row_case(d, text, 39, one, 0, 0),
-        7 => row_case(d, text, 12, 4, 180054 + one, 3),
-        _ => row_case(d, text, 19, 4, 180054 + one, 12),
-    }
+// short outputs.
+fn all_short_cases(group: &mut Group) -> Result<(), AllocError> {
+    let spoilt = with_spoilt(36, Spoilt::Replaced(b';'));
+    let stray = with_value(Replaced::From(0, 0), 6);
+    let largest = at_limit(1000, 4000, 4000, 1000, 0);
+    short_cases(group, &values(1, 1, 1, 1, 0), 1, 3)?;
+    short_cases(group, &spoilt, 1, 12)?;
+    short_cases(group, &values(0, 0, 0, 0, 1), 1, 1)?;
+    short_cases(group, &values(2, 0, 3, 0, 4), 1, 3)?;
+    short_cases(group, &stray, 1, 3)?;
+    short_cases(group, &largest, 1, 3)?;
+    short_cases(group, &largest, 0, 0)?;
+    output_cases(group, &stray, 3)?;
+    output_cases(group, &spoilt, 12)
 }
 
-// A ring of 1,000 vertices, profiles with a circle and without, and the rows of the table of texts.
-fn more_case(d: &mut Desk, text: &mut Text, i: usize) -> Outcome {
-    if i == 0 {
-        return chain_case(d, text, 1000, &[0, 12000, 1000, 3000, 1]);
-    }
-    if i < 7 {
-        return circle_case(d, text, i - 1);
-    }
-    text_case(d, text, i - 7)
-}
-
-pub(crate) fn case(d: &mut Desk, text: &mut Text, i: usize) -> Outcome {
-    if i == 0 {
-        return printed_case(
-            d,
-            text,
-            b"elements,references,start\n3,4,1\nfrom,to\n1,2\n1,3\n2,3\n3,1\n",
-        );
-    }
-    // The same, each number with five digits.
-    if i == 1 {
-        return printed_case(
-            d,
-            text,
-            b"elements,references,start\n00003,00004,00001\nfrom,to\n00001,00002\n00001,00003\n00002,00003\n00003,00001\n",
-        );
-    }
-    if i == 2 {
-        return chain_case(d, text, 999, &[0, 11994, 1000, 2998, 0]);
-    }
+// All of these.
+pub(crate) fn cases(group: &mut Group) -> Result<(), AllocError> {
+    let alloc = group.alloc;
+    group.add_rows(&PROFILES, |profile| printed_case(alloc, profile))?;
+    group.add(chain_case(alloc, 999, 11994, counted(1000, 2998, false))?)?;
     // All 4,000 edges, four times round: no walk has more moves.
-    if i == 3 {
-        return chain_case(d, text, 4000, &[0, 30000, 1000, 9000, 1]);
-    }
-    if i < 49 {
-        return short_case(d, text, i - 4);
-    }
-    more_case(d, text, i - 49)
+    group.add(chain_case(alloc, 4000, 30000, counted(1000, 9000, true))?)?;
+    all_short_cases(group)?;
+    group.add(chain_case(alloc, 1000, 12000, counted(1000, 3000, true))?)?;
+    group.add_rows(&TOLD, |told| told_case(alloc, told))?;
+    text_cases(group)
 }

@@ -1,120 +1,184 @@
-// The walk of a text: its number, every byte of the output and every word of the areas, against the second reader, the second search and
+// The walk of a text: its answer, every byte of the output and every word of the areas, against the second reader, the second search and
 // the second writer; a refused text leaves all of them. The circular figure of a small listing is told by the closure of its lines too.
-use crate::areas::{
-    AFTER, Desk, LABELS, MARKS, SPAN, TAIL, Text, UNTOUCHED, WIDE, first_bytes, lent, lent_bytes,
-    store, word,
-};
-use crate::calls::{answer, reported, walk_text};
+use crate::areas::{BLANK, SPAN, UNTOUCHED, holds, lent};
+use crate::calls::walk_text;
 use crate::chance::draw;
-use crate::circles::circle_differs;
+use crate::circles::is_circular;
 use crate::drawn::other_seed;
-use crate::listing::{COPIED, area_differs};
-use crate::printed::{BLANK, events_differ, output_differs, put_report};
-use crate::profiles::{draw_damaged, draw_listed, image_differs, said, said_m, said_n};
-use crate::search::search;
-use crate::tally::{Outcome, also};
+use crate::printed::walk_lines;
+use crate::profiles::{draw_damaged, draw_listed, is_image};
+use crate::reader::{Said, read_text};
+use crate::search::{Counts, Search, search_lines};
+use crate::tally::{Group, Outcome};
+use std::alloc::{AllocError, Global};
 
-// The length that an area is lent at (after, tail, marks, events, output): of one area so much less than stated, of the others more.
-fn length_of(area: usize, one: usize, less: usize) -> usize {
-    let stated: usize = match area {
-        0 => 5000,
-        1 => 4000,
-        2 => 5000,
-        3 => 54003,
-        _ => 180066,
-    };
-    if area != one {
-        return stated % 262144 + 3;
+// How many words an event area has, and how many bytes an output area.
+const EVENTS: usize = 54100;
+
+const OUTPUT: usize = 180100;
+
+// The areas that a walk is lent.
+#[derive(Clone, Copy, PartialEq, Eq)]
+pub(crate) enum Area {
+    After,
+    Tail,
+    Marks,
+    Events,
+    Output,
+}
+
+pub(crate) const AREAS: [Area; 5] = [
+    Area::After,
+    Area::Tail,
+    Area::Marks,
+    Area::Events,
+    Area::Output,
+];
+
+// How long areas are lent: one of them so much less than stated, the others more than stated.
+#[derive(Clone, Copy)]
+pub(crate) struct Lent {
+    pub(crate) one: Option<Area>,
+    pub(crate) less: usize,
+}
+
+impl Lent {
+    // All areas longer than stated.
+    pub(crate) const ALL: Lent = Lent { one: None, less: 0 };
+
+    // The length that an area is lent at.
+    fn length(self, area: Area) -> usize {
+        let stated: usize = match area {
+            Area::After => 5000,
+            Area::Tail => 4000,
+            Area::Marks => 5000,
+            Area::Events => 54003,
+            Area::Output => 180066,
+        };
+        if self.one == Some(area) {
+            stated.saturating_sub(self.less)
+        } else {
+            stated + 3
+        }
     }
-    if stated < less { 0 } else { stated - less }
 }
 
-// Walks a text, one area lent shorter; links and marks, whole, come onto the desk.
-pub(crate) fn walk(
-    d: &mut Desk,
-    text: &[u8],
-    events: &mut [u16],
-    output: &mut [u8],
-    one: usize,
-    less: usize,
-) -> u64 {
-    let mut after = [UNTOUCHED; SPAN];
-    let mut tail = [UNTOUCHED; SPAN];
-    let mut marks = [UNTOUCHED; SPAN];
-    let first = walk_text(
+// What a walk answers, and what it leaves in every area.
+#[derive(PartialEq, Drop)]
+pub(crate) struct Walk {
+    pub(crate) answer: Result<usize, u16>,
+    after: Vec<u16>,
+    tail: Vec<u16>,
+    marks: Vec<u16>,
+    events: Vec<u16>,
+    output: Vec<u8>,
+}
+
+// Walks a text.
+pub(crate) fn run_walk(alloc: Global, text: &[u8], lengths: Lent) -> Result<Walk, AllocError> {
+    let mut after = vec![in alloc; UNTOUCHED; SPAN]?;
+    let mut tail = vec![in alloc; UNTOUCHED; SPAN]?;
+    let mut marks = vec![in alloc; UNTOUCHED; SPAN]?;
+    let mut events = vec![in alloc; UNTOUCHED; EVENTS]?;
+    let mut output = vec![in alloc; BLANK; OUTPUT]?;
+    let answer = walk_text(
         text,
-        lent(&mut after, length_of(0, one, less)),
-        lent(&mut tail, length_of(1, one, less)),
-        lent(&mut marks, length_of(2, one, less)),
-        lent(events, length_of(3, one, less)),
-        lent_bytes(output, length_of(4, one, less)),
+        lent(&mut after, lengths.length(Area::After)),
+        lent(&mut tail, lengths.length(Area::Tail)),
+        lent(&mut marks, lengths.length(Area::Marks)),
+        lent(&mut events, lengths.length(Area::Events)),
+        lent(&mut output, lengths.length(Area::Output)),
     );
-    store(d, AFTER, &after);
-    store(d, TAIL, &tail);
-    store(d, MARKS, &marks);
-    first
+    Ok(Walk {
+        answer,
+        after,
+        tail,
+        marks,
+        events,
+        output,
+    })
 }
 
-// What the second reader says of a text, an area being too short or none; the text that it takes is searched.
-fn searched(d: &mut Desk, text: &[u8], less: usize) -> u64 {
-    let second = said(d, text, if less == 0 { SPAN } else { 0 }, SPAN);
-    search(d, said_n(second), said_m(second), word(second));
-    second
+// Whether the circular figure of a search is not that of the closure.
+fn circle_differs(said: &Said, counts: Counts) -> bool {
+    match said.answer {
+        Ok(loaded) => is_circular(loaded, &said.lines).is_some_and(|is| is != counts.circular),
+        Err(_) => false,
+    }
 }
 
-// Whether links and marks on the desk are not those of the search; of sizes 0, whether a word was touched.
-fn areas_differ(d: &mut Desk, n: u16, m: u16) -> bool {
-    let a = image_differs(d, n, m);
-    a || area_differs(d, MARKS, n as usize + m as usize, COPIED, LABELS, n, m)
+// The words of the events of a search.
+fn event_words(alloc: Global, search: &Search) -> Result<Vec<u16>, AllocError> {
+    let mut words = Vec::new(alloc);
+    for event in &search.events {
+        words.extend_from_slice(&event.words())?;
+    }
+    Ok(words)
 }
 
-// The same, or whether the circular figure of the search is not that of the closure.
-fn searched_differs(d: &mut Desk, second: u64) -> bool {
-    let n = said_n(second);
-    let m = said_m(second);
-    areas_differ(d, n, m) || circle_differs(d, n, m, word(second))
+// The outcome of a walk, and what the second search counted and is to print of it.
+#[derive(Drop)]
+pub(crate) struct Walked {
+    pub(crate) outcome: Outcome,
+    pub(crate) counts: Counts,
+    pub(crate) events: usize,
+    pub(crate) printed: String,
 }
 
-// Compares what is reported and printed with what is to be printed; it comes into the text.
-fn compared(d: &Desk, text: &mut Text, first: u64, k: u16, output: &[u8]) -> Outcome {
-    let length = put_report(text, d, k);
-    let differs = output_differs(output, text, length);
-    also(word(first), differs || first != reported(k, length))
-}
-
-// The case of the text in the first `length` bytes, one area lent shorter than stated by so much.
-pub(crate) fn walked(
-    d: &mut Desk,
-    text: &mut Text,
-    length: usize,
-    one: usize,
-    less: usize,
-) -> Outcome {
-    let mut events = [UNTOUCHED; WIDE];
-    let mut output = [BLANK; 180100];
-    let second = searched(d, first_bytes(text, length), less);
-    let first = walk(
-        d,
-        first_bytes(text, length),
-        &mut events,
-        &mut output,
-        one,
-        less,
-    );
-    let differs = searched_differs(d, second) || events_differ(&events, d);
-    let o = compared(d, text, first, answer(second), &output);
-    also(o, differs)
-}
-
-// A text by chance, in form or damaged; at times one area is short.
-pub(crate) fn drawn_case(d: &mut Desk, text: &mut Text, i: u64, damaged: bool) -> Outcome {
-    let seed = other_seed(i, 4);
-    let length = if damaged {
-        draw_damaged(d, text, seed)
-    } else {
-        draw_listed(d, text, seed)
+// The case of a text, with areas of these lengths.
+pub(crate) fn compare_walk(
+    alloc: Global,
+    text: &[u8],
+    lengths: Lent,
+) -> Result<Walked, AllocError> {
+    let of_after = if lengths.less == 0 { SPAN } else { 0 };
+    let said = read_text(alloc, text, of_after, SPAN)?;
+    let search = search_lines(alloc, &said)?;
+    let first = run_walk(alloc, text, lengths)?;
+    let printed = match said.answer {
+        Ok(_) => walk_lines(alloc, &search)?,
+        Err(_) => String::new(alloc),
     };
-    let one = draw(seed, 79, 5) as usize;
-    let less = if draw(seed, 80, 8) == 0 { 1 } else { 0 };
-    walked(d, text, length, one, less)
+    let events = event_words(alloc, &search)?;
+    let holds = is_image(alloc, &said, &first.after, &first.tail)?
+        && holds(&first.marks, &search.labels, UNTOUCHED)
+        && holds(&first.events, &events, UNTOUCHED)
+        && holds(&first.output, printed.as_bytes(), BLANK);
+    let second = said.answer.map(|_| printed.len());
+    let differs = !holds || circle_differs(&said, search.counts);
+    Ok(Walked {
+        outcome: Outcome::of(first.answer, second).also(differs),
+        counts: search.counts,
+        events: events.len(),
+        printed,
+    })
+}
+
+// The case of a text by chance; at times one area is short.
+fn walk_drawn(alloc: Global, text: &[u8], seed: u16) -> Result<Outcome, AllocError> {
+    let lengths = Lent {
+        one: AREAS.get(usize::from(draw(seed, 79, 5))).copied(),
+        less: if draw(seed, 80, 8) == 0 { 1 } else { 0 },
+    };
+    Ok(compare_walk(alloc, text, lengths)?.outcome)
+}
+
+// Texts in form.
+pub(crate) fn sound_cases(group: &mut Group) -> Result<(), AllocError> {
+    let alloc = group.alloc;
+    group.add_draws(0..=1999, |i| {
+        let seed = other_seed(i, 4);
+        let text = draw_listed(alloc, seed)?;
+        walk_drawn(alloc, text.as_bytes(), seed)
+    })
+}
+
+// Damaged texts.
+pub(crate) fn damaged_cases(group: &mut Group) -> Result<(), AllocError> {
+    let alloc = group.alloc;
+    group.add_draws(0..=3999, |i| {
+        let seed = other_seed(i, 4);
+        let text = draw_damaged(alloc, seed)?;
+        walk_drawn(alloc, &text, seed)
+    })
 }

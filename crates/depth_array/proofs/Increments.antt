@@ -1,14 +1,8 @@
 -- The search over the array form, move by move.
 -- An edge is its position: its rank on its vertex's list is the increment, and the tails differ from those lent only at the tree edges under way.
-use mathlib.Core.Path.{◌≡◌, refl, sym, ap, ◌∙◌, subst}
-use mathlib.Core.Logic.{◌≢◌}
-use mathlib.Core.Bool.{Bool, true, false, cond, not, ◌&&◌, ◌||◌}
-use mathlib.Core.List.{List, [], ◌∷◌, ◌++◌, reverse, reverse_aux}
-use Prim.Native.Nat.{ℕ, zero, suc, ◌+◌, ◌-◌, ◌≤◌, ◌<◌, min, max}
-use native.Mathlib.Omega.{arith}
-use lib.Dec.{eqb}
-use lib.ListN.{length, get_or, set, drop}
-use borrow.Author.Tests.{eq-eqb, ne_eqb, not-true, not-false}
+use mathlib.Core.List.{reverse_aux}
+use borrow.Author.Tests.{not-true, not-false}
+use Rattle.std.proofs.Common.{◌≡◌, refl, sym, ap, ◌∙◌, subst, ◌≢◌, Bool, true, false, cond, not, ◌&&◌, ◌||◌, List, [], ◌∷◌, ◌++◌, reverse, ℕ, zero, suc, ◌+◌, ◌-◌, ◌≤◌, ◌<◌, min, max, arith, eqb, length, get_or, set, drop, eq-eqb, ne_eqb}
 use Rattle.lists.specs.Members.{Mem, here, there, memb}
 use Rattle.lists.specs.Counts.{rank}
 use Rattle.lists.specs.Words.{at, put, cleared, values_from}
@@ -21,22 +15,15 @@ use Rattle.graphs.specs.Graph.{Graph}
 use Rattle.graphs.specs.Events.{event, label, advance_tree, advance_nontree, retreat_tree, retreat_nontree, scan, History, ◌▸◌, known, labelled}
 use Rattle.graphs.specs.ArrayForm.{ArrayForm, array_graph}
 use Rattle.graphs.specs.Results.{blank_mark, unless_blank, last_tree, increment_word, increment_left}
-use Rattle.graphs.specs.Refusals.{unless_refused}
-use Rattle.graphs.proofs.Refusals.{refused}
 use Rattle.graphs.proofs.ArraySound.{ArraySound}
 use Rattle.graphs.proofs.Owned.{values-in, array_owned}
 use Rattle.graphs.proofs.Room.{array-ready}
 use Rattle.graphs.proofs.Places.{Frame, frame, parent, path, Above, of-rest, scene-edge}
 use Rattle.graphs.proofs.Trees.{AllTrees, no-tree, all-trees}
 use Rattle.graphs.proofs.Tails.{tails-length, tails-kept}
-use Rattle.arrays.specs.Arrays.{array_in}
-use Rattle.walks.specs.Promises.{Walked}
-use Rattle.walks.specs.Promises.{array_walk_number, array_walk, ArrayPromise}
-use Rattle.walks.specs.Writing.{no_events, total}
+use Rattle.walks.specs.Writing.{total}
 use Rattle.walks.specs.Moves.{Underway}
 use Rattle.walks.proofs.Storing.{all-cleared}
-use Rattle.walks.proofs.Begins.{refused-promised, taken-promised}
-use Rattle.walks.proofs.ArrayBegins.{array-begins}
 use Rattle.walks.proofs.Writing.{Emits, Puts, Starts}
 use Rattle.walks.proofs.Moves as moves
 use Rattle.depth_array.specs.declared.array.Place.{Place}
@@ -243,33 +230,33 @@ unframed G start (frame u du r ru ∷ s) v up e = absurd (let hu = up.1 in omega
 
 -- ---- at a place
 -- The numbers at a place.
-pub record Within (a : ArrayForm) (tails increments : List ℕ) (p : Place) : Type 0 where
-  pub few_vertices : a.n ≤ 1000
-  pub few_edges : a.m ≤ 4000
-  pub long_firsts : a.n < length a.firsts
-  pub long_tails : a.m ≤ length tails
-  pub long-increments : a.n ≤ length increments
+pub record Within (n m : ℕ) (firsts tails increments : List ℕ) (p : Place) : Type 0 where
+  pub few_vertices : n ≤ 1000
+  pub few_edges : m ≤ 4000
+  pub long_firsts : n < length firsts
+  pub long_tails : m ≤ length tails
+  pub long-increments : n ≤ length increments
   pub low-vertex : 1 ≤ p.v.0
-  pub high-vertex : p.v.0 ≤ a.n
+  pub high-vertex : p.v.0 ≤ n
   pub low : 1 ≤ p.p.0
-  pub from : get_or a.firsts (p.v.0 - 1) 0 ≤ p.p.0
-  pub up_to : p.p.0 ≤ get_or a.firsts p.v.0 0
+  pub from : get_or firsts (p.v.0 - 1) 0 ≤ p.p.0
+  pub up_to : p.p.0 ≤ get_or firsts p.v.0 0
 
 -- The numbers where an edge is ahead: its position is one, and its tail a vertex.
-pub record Tail (a : ArrayForm) (tails marks : List ℕ) (p : Place) : Type 0 where
-  pub high : p.p.0 ≤ a.m
+pub record Tail (n m : ℕ) (tails marks : List ℕ) (p : Place) : Type 0 where
+  pub high : p.p.0 ≤ m
   pub low-tail : 1 ≤ get_or tails (p.p.0 - 1) 0
-  pub high-tail : get_or tails (p.p.0 - 1) 0 ≤ a.n
-  pub long_marks : a.n ≤ length marks
+  pub high-tail : get_or tails (p.p.0 - 1) 0 ≤ n
+  pub long_marks : n ≤ length marks
   pub few : 2 + total p.tally ≤ 10000
 
 -- The numbers where v is left along a tree edge: its parent is a vertex, and the edge has a position.
-pub record Back (a : ArrayForm) (increments : List ℕ) (p : Place) : Type 0 where
+pub record Back (n m : ℕ) (firsts increments : List ℕ) (p : Place) : Type 0 where
   pub low-parent : 1 ≤ p.f.0
-  pub high-parent : p.f.0 ≤ a.n
+  pub high-parent : p.f.0 ≤ n
   pub some : 1 ≤ get_or increments (p.f.0 - 1) 0
-  pub low : 1 ≤ get_or a.firsts (p.f.0 - 1) 0 + get_or increments (p.f.0 - 1) 0 - 1
-  pub high : get_or a.firsts (p.f.0 - 1) 0 + get_or increments (p.f.0 - 1) 0 - 1 ≤ a.m
+  pub low : 1 ≤ get_or firsts (p.f.0 - 1) 0 + get_or increments (p.f.0 - 1) 0 - 1
+  pub high : get_or firsts (p.f.0 - 1) 0 + get_or increments (p.f.0 - 1) 0 - 1 ≤ m
   pub few : 2 + total p.tally ≤ 10000
 
 module _ {a : ArrayForm} {before : List ℕ} {start : ℕ} {marks₀ increments₀ events₀ tails marks increments events : List ℕ} {p : Place} (A : ArrayAt a before start marks₀ increments₀ events₀ tails marks increments events p) where
@@ -299,7 +286,7 @@ module _ {a : ArrayForm} {before : List ℕ} {start : ℕ} {marks₀ increments�
   increments-same : length increments ≡ length increments₀
   increments-same = ap length A.increments_left ∙ length-filled (increment_word G A.h) a.n increments₀ A.long
 
-  pub within : Within a tails increments p
+  pub within : Within a.n a.m a.firsts tails increments p
   within =
       let S = A.sound in
       let hv = vertex in
@@ -345,7 +332,7 @@ module _ {a : ArrayForm} {before : List ℕ} {start : ℕ} {marks₀ increments�
     target : Vertex a.n x
     target = subst (Vertex a.n) leads (moves.target-vertex on)
 
-    pub tail : Tail a tails marks p
+    pub tail : Tail a.n a.m tails marks p
     tail =
         let w = within in
         let top = A.sound.from_one (suc v) (omega arith) (omega arith) in
@@ -488,7 +475,7 @@ module _ {a : ArrayForm} {before : List ℕ} {start : ℕ} {marks₀ increments�
           let O = stand in
           omega (arith, word_back, sym (read_at a.firsts f) ∙ ap (at 0 a.firsts) is-parent)
 
-      pub back : Back a increments p
+      pub back : Back a.n a.m a.firsts increments p
       back =
           let O = stand in
           let w = parent-vertex in
@@ -609,69 +596,22 @@ module _ {n m : ℕ} {firsts tails marks increments events : List ℕ} {p : Plac
     is = o S.before S.start S.tails₀ S.marks₀ S.increments₀ S.events₀ S.is;
   }
 
+  -- An edge is ahead of that place, or none.
+  pub onward-ahead : SomeArrayAt n m firsts tails marks increments events p → q.p.0 < get_or firsts q.v.0 0
+      → SomeArrayAt n m firsts tails₁ marks₁ increments₁ events₁ q × (q.p.0 < at 0 firsts (suc q.v.0))
+  onward-ahead S l = (some-onward S, omega (arith, word-here firsts q.v.0))
+
+  pub onward_done : SomeArrayAt n m firsts tails marks increments events p → get_or firsts q.v.0 0 ≤ q.p.0 → q.p.0 ≡ at 0 firsts (suc q.v.0)
+  onward_done S l = let w = within (some-onward S).is in omega (arith, word-here firsts q.v.0)
+
   pub onward_then : {tails₂ marks₂ increments₂ events₂ : List ℕ} {r : Place} → Onward n m firsts tails₁ marks₁ increments₁ events₁ q tails₂ marks₂ increments₂ events₂ r
       → Onward n m firsts tails marks increments events p tails₂ marks₂ increments₂ events₂ r
   onward_then w before start tails₀ marks₀ increments₀ events₀ A = w before start tails₀ marks₀ increments₀ events₀ (o before start tails₀ marks₀ increments₀ events₀ A)
 
-pub some_at : {n m : ℕ} {before : List ℕ} {start : ℕ} {firsts tails₀ marks₀ increments₀ events₀ tails marks increments events : List ℕ} {p : Place}
-    → ArrayAt (array_in n m firsts tails₀) before start marks₀ increments₀ events₀ tails marks increments events p → SomeArrayAt n m firsts tails marks increments events p
-some_at {before = before} {start} {tails₀ = tails₀} {marks₀} {increments₀} {events₀} A = record {
-  before = before;
-  start = start;
-  tails₀ = tails₀;
-  marks₀ = marks₀;
-  increments₀ = increments₀;
-  events₀ = events₀;
-  is = A;
-}
+-- What a move along the next edge reads and writes, and what one back along the trailer does.
+module _ {n m : ℕ} {firsts tails marks increments events : List ℕ} {p : Place} where
+  pub advance-reads : SomeArrayAt n m firsts tails marks increments events p × (p.p.0 < at 0 firsts (suc p.v.0)) → Within n m firsts tails increments p × Tail n m tails marks p
+  advance-reads z = (within z.0.is, tail z.0.is z.1)
 
--- The areas keep their lengths.
-pub record Long (tails₀ marks₀ increments₀ events₀ tails marks increments events : List ℕ) : Type 0 where
-  pub tails-long : length tails ≡ length tails₀
-  pub marks-long : length marks ≡ length marks₀
-  pub increments-long : length increments ≡ length increments₀
-  pub events-long : length events ≡ length events₀
-
-lengths : {a : ArrayForm} {before : List ℕ} {start : ℕ} {marks₀ increments₀ events₀ tails marks increments events : List ℕ} {p : Place} → ArrayAt a before start marks₀ increments₀ events₀ tails marks increments events p → Long a.tails marks₀ increments₀ events₀ tails marks increments events
-lengths A = let l = moves.move-lengths A.underway in record { tails-long = tails-same A; marks-long = l.0; increments-long = increments-same A; events-long = l.1 }
-
-pub kept : {n m : ℕ} {firsts tails marks increments events : List ℕ} {p : Place} {tails₁ marks₁ increments₁ events₁ : List ℕ} {q : Place} → SomeArrayAt n m firsts tails marks increments events p
-    → Onward n m firsts tails marks increments events p tails₁ marks₁ increments₁ events₁ q
-    → Long tails marks increments events tails₁ marks₁ increments₁ events₁
-kept S o =
-    let x = lengths S.is in
-    let y = lengths (o S.before S.start S.tails₀ S.marks₀ S.increments₀ S.events₀ S.is) in
-    record {
-      tails-long = y.tails-long ∙ sym x.tails-long;
-      marks-long = y.marks-long ∙ sym x.marks-long;
-      increments-long = y.increments-long ∙ sym x.increments-long;
-      events-long = y.events-long ∙ sym x.events-long;
-    }
-
--- An edge is ahead of v, or none.
-pub is-ahead : (firsts : List ℕ) (v e : ℕ) → e < get_or firsts v 0 → e < at 0 firsts (suc v)
-is-ahead firsts v e l = omega (arith, word-here firsts v)
-
-pub is-done : (firsts : List ℕ) (v e : ℕ) → e ≤ get_or firsts v 0 → get_or firsts v 0 ≤ e → e ≡ at 0 firsts (suc v)
-is-done firsts v e l g = omega (arith, word-here firsts v)
-
--- ---- the walk
-module _ (a : ArrayForm) (before : List ℕ) (start : ℕ) (marks increments events : List ℕ) {k : ℕ} (is : k ≡ array_walk_number a before start marks increments events) where
-  -- What the walk leaves in the tails and in the increment area.
-  abbrev Kept : Walked → (tails' increments' : List ℕ) → Type 0
-  Kept r tails' increments' = (tails' ≡ a.tails) × (increments' ≡ unless_refused r.number (increment_left (array_graph a) (array_walk a before start) increments) increments)
-
-  -- A walk refused leaves all as it was.
-  pub walk_refused : {r : Walked} → (r.number ≡ k) × (r.tally ≡ no_events) → k ≢ 0 → ArrayPromise a before start increments marks events r marks events × Kept r a.tails increments
-  walk_refused {r} f ne =
-      let kept = refused r.number (increment_left (array_graph a) (array_walk a before start) increments) increments (λ e. ne (sym f.0 ∙ e)) in
-      (refused-promised is ne f, (refl, kept))
-
-  -- A walk taken can begin.
-  pub walk_begins : k ≡ 0 → CanSearch a before start marks increments events
-  walk_begins z = array-begins a before start marks increments events (sym is ∙ z)
-
-  -- And leaves what the search leaves.
-  pub walk_ends : {tails' marks' increments' events' t : List ℕ} → k ≡ 0 → Ended a before start marks increments events tails' marks' increments' events' t
-      → (let r : Walked = record { number = 0; tally = t } in ArrayPromise a before start increments marks events r marks' events' × Kept r tails' increments')
-  walk_ends z E = (taken-promised (sym is ∙ z) refl E.held, (E.tails_left, E.increments_left))
+  pub retreat-reads : SomeArrayAt n m firsts tails marks increments events p × (p.p.0 ≡ at 0 firsts (suc p.v.0)) × (p.f.0 ≢ 0) → Within n m firsts tails increments p × Back n m firsts increments p
+  retreat-reads z = (within z.0.is, back z.0.is z.1 z.2)

@@ -1,11 +1,12 @@
 // Depth-first search over the array form (the paper's last version): an increment for each vertex says which of its edges was the last
 // tree edge; the tail of a tree edge under way holds the parent of the vertex that the edge leaves, and gets its vertex back. Position p is named n + p.
+// Tails are written while n, m and the first positions are read, so all four are lent one by one; what only reads them is lent an `ArrayForm`.
 ghost use Rattle.std.specs.Prelude.{◌≡◌, ◌≢◌, suc, ◌+◌, ◌<◌, ◌≤◌, length, get_or};
 ghost use Rattle.lists.specs.Words.{at};
 ghost use Rattle.graphs.specs.ArrayForm.{array_graph};
 ghost use Rattle.graphs.specs.Results.{increment_left};
 ghost use Rattle.graphs.specs.Refusals.{unless_refused};
-ghost use Rattle.arrays.specs.Arrays.{array_in};
+ghost use Rattle.arrays.specs.Arrays.{array_in, form_of};
 ghost use Rattle.refusals.specs.Numbers.{number_in};
 ghost use Rattle.walks.specs.Promises.{array_walk, walked_of, ArrayPromise};
 ghost use Rattle.walks.specs.Writing.{total};
@@ -55,37 +56,30 @@ fn advance(
         tails.new marks.new increments.new events.new result }
     ensures words { total result.tally ≡ 2 + total place.tally }
 {
-    let t = place.tally;
-    let v = place.v;
-    let p = place.p.0;
-    let f = place.f;
-    let here = v.0 as usize - 1;
-    let r = n + p;
-    let j = p as usize - 1;
+    let e = Edge(n + place.p.0);
+    let j = place.p.0 as usize - 1;
     let x = tails[j];
     let i = x as usize - 1;
     if is_new(increments, marks, i) {
-        let a = emit(events, Kind::AdvanceTree as u16, Edge(r), v, t);
-        increments[here] = p - firsts[here] + 1;
-        tails[j] = f.0;
-        let b = label(marks, events, Vertex(x), a);
+        let a = emit(events, Kind::AdvanceTree as u16, e, place.v, place.tally);
+        let here = place.v.0 as usize - 1;
+        increments[here] = place.p.0 - firsts[here] + 1;
+        tails[j] = place.f.0;
+        let tally = label(marks, events, Vertex(x), a);
         increments[i] = 1;
-        let first = firsts[i];
         Place {
             v: Vertex(x),
-            p: Position(first),
-            f: v,
-            tally: b,
+            p: Position(firsts[i]),
+            f: place.v,
+            tally,
         }
     } else {
-        let a = emit(events, Kind::AdvanceNontree as u16, Edge(r), v, t);
-        let b = emit(events, Kind::RetreatNontree as u16, Edge(r), v, a);
-        let next = p + 1;
+        let a = emit(events, Kind::AdvanceNontree as u16, e, place.v, place.tally);
+        let tally = emit(events, Kind::RetreatNontree as u16, e, place.v, a);
         Place {
-            v: v,
-            p: Position(next),
-            f: f,
-            tally: b,
+            p: Position(place.p.0 + 1),
+            tally,
+            ..place
         }
     }
 }
@@ -106,23 +100,18 @@ fn retreat(
         tails.new marks.now increments.now events.new result }
     ensures words { total result.tally ≡ 2 + total place.tally }
 {
-    let t = place.tally;
-    let v = place.v;
-    let u = place.f;
-    let a = emit(events, Kind::Scan as u16, Edge(0), v, t);
-    let i = u.0 as usize - 1;
+    let a = emit(events, Kind::Scan as u16, Edge(0), place.v, place.tally);
+    let i = place.f.0 as usize - 1;
     let p = firsts[i] + increments[i] - 1;
-    let r = n + p;
     let j = p as usize - 1;
     let f = tails[j];
-    tails[j] = v.0;
-    let b = emit(events, Kind::RetreatTree as u16, Edge(r), u, a);
-    let next = p + 1;
+    tails[j] = place.v.0;
+    let tally = emit(events, Kind::RetreatTree as u16, Edge(n + p), place.f, a);
     Place {
-        v: u,
-        p: Position(next),
+        v: place.f,
+        p: Position(p + 1),
         f: Vertex(f),
-        tally: b,
+        tally,
     }
 }
 
@@ -178,30 +167,26 @@ fn finish(
 
 // Clears marks, but for the elements already on the blank, and increments, and labels the start, whose increment becomes 1.
 fn open(
-    n: u16,
-    m: u16,
-    firsts: &[u16],
-    tails: &[u16],
+    a: &ArrayForm,
     before: &[u16],
     start: Vertex,
     marks: &mut [u16],
     increments: &mut [u16],
     events: &mut [u16],
 ) -> Place
-    requires { CanSearch (array_in n m firsts.now tails.now) before.now start.0 marks.old increments.old events.old }
-    ensures { ArrayAt (array_in n m firsts.now tails.now) before.now start.0 marks.old increments.old events.old
-        tails.now marks.new increments.new events.new result }
+    requires { CanSearch (form_of a.now) before.now start.0 marks.old increments.old events.old }
+    ensures { ArrayAt (form_of a.now) before.now start.0 marks.old increments.old events.old
+        a.now.tails.now marks.new increments.new events.new result }
 {
-    clear(increments, n as usize);
-    let t = begin(marks, events, n as usize + m as usize, before, start);
+    clear(increments, a.n as usize);
+    let tally = begin(marks, events, a.n as usize + a.m as usize, before, start);
     let first = start.0 as usize - 1;
     increments[first] = 1;
-    let p = firsts[first];
     Place {
         v: start,
-        p: Position(p),
+        p: Position(a.firsts[first]),
         f: Vertex(0),
-        tally: t,
+        tally,
     }
 }
 
@@ -221,12 +206,15 @@ fn search(
     ensures { Ended (array_in n m firsts.now tails.old) before.now start.0 marks.old increments.old events.old
         tails.new marks.new increments.new events.new result }
 {
-    let p = open(
-        n, m, firsts, tails, before, start, marks, increments, events,
-    );
+    let a = ArrayForm {
+        n,
+        m,
+        firsts,
+        tails,
+    };
+    let p = open(&a, before, start, marks, increments, events);
     let q = finish(n, m, firsts, tails, marks, increments, events, p);
-    let t = q.tally;
-    emit(events, Kind::Scan as u16, Edge(0), start, t)
+    emit(events, Kind::Scan as u16, Edge(0), start, q.tally)
 }
 
 // Depth-first search of an array form from start, with the elements already on the blank and n increments. Refused by 1, 2, 3 (all areas),
@@ -252,11 +240,10 @@ pub fn dfs_array(
         n,
         m,
         firsts,
-        tails: &*tails,
+        tails,
     };
     check_array_walk(&a, before, start, marks, increments, events)?;
-    let tally = search(
+    Ok(search(
         n, m, firsts, tails, before, start, marks, increments, events,
-    );
-    Ok(tally)
+    ))
 }

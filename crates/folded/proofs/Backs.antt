@@ -1,17 +1,9 @@
 -- The steps back, as they are stored: an edge put back, a scan ended, a vertex left while rolling back.
 -- A step fits by the tests of the words that it reads, and then what is stored is what the step leaves.
-use mathlib.Core.Path.{◌≡◌, refl, sym, ap, ◌∙◌}
-use mathlib.Core.Logic.{◌≢◌}
-use mathlib.Core.Bool.{Bool, true, false, cond, ◌&&◌}
-use mathlib.Core.List.{List, [], ◌∷◌, ◌++◌}
-use Prim.Native.Nat.{ℕ, suc, ◌+◌, ◌-◌, ◌*◌, ◌≤◌, ◌<◌}
-use native.Mathlib.Omega.{arith}
-use lib.Dec.{eqb}
-use Rattle.std.specs.Prelude.{Option, Some, None}
+use Rattle.std.proofs.Common.{◌≡◌, refl, sym, ap, ◌∙◌, ◌≢◌, Bool, true, false, cond, ◌&&◌, List, [], ◌∷◌, ◌++◌, ℕ, suc, ◌+◌, ◌-◌, ◌*◌, ◌≤◌, ◌<◌, arith, eqb, Option, Some, None, length, get_or, set, take, drop, take-append-drop, eq-eqb, ne_eqb, le-leb}
 use Rattle.std.proofs.lemmas.Option.{none-some, cond_some}
-use lib.ListN.{length, get_or, set, take, drop, take-append-drop}
 use Rattle.std.proofs.lemmas.List.{length-take, get_or-take}
-use borrow.Author.Tests.{eq-eqb, ne_eqb, le-leb, lt-leb}
+use borrow.Author.Tests.{lt-leb}
 use Rattle.lists.specs.Words.{at, put, pasted, filled}
 use Rattle.lists.proofs.Words.{read_past, pasted-none, at_other, read_at, filled_next, filled-ahead, filled-same, filled-behind, take-filled}
 use Rattle.lists.proofs.Tests.{and-true, both}
@@ -98,7 +90,6 @@ module _ (w : Config) {r : ℕ} (e : r ≡ upward w) where
 pub record Upward (w : Config) (r : ℕ) : Type 0 where
   pub read : r ≡ upward w
   pub low : w.n < r
-  pub high : r ≤ w.n + w.m
   pub edge : is_edge w.n w.m (upward w) ≡ true
   pub trailer : is_node w.n w.m (target w (upward w)) ≡ true
 
@@ -109,7 +100,7 @@ module _ (w : Config) where
       let (t, q) = cond_some (leads_up w (upward w)) (upward w) r (sym e) in
       let z = both (is_edge w.n w.m (upward w)) (is_node w.n w.m (target w (upward w))) t in
       let x = edge-is w.n w.m (upward w) z.0 in
-      record { read = sym q; low = omega (arith, x.0); high = omega (arith, x.1); edge = z.0; trailer = z.1 }
+      record { read = sym q; low = omega (arith, x.0); edge = z.0; trailer = z.1 }
 
   no-upward : None ≡ upward_in w → leads_up w (upward w) ≡ false
   no-upward e = go (leads_up w (upward w)) e

@@ -1,16 +1,7 @@
 -- A single step and a run follow the definitions: a call that is not refused is ready, a step leaves what is ready, and the events of a
 -- run stand one behind another in its area.
 -- A run is the steps made so far in front of the run from there.
-use mathlib.Core.Path.{◌≡◌, refl, sym, ap, ◌∙◌, subst}
-use mathlib.Core.Logic.{◌≢◌}
-use mathlib.Core.Bool.{Bool, true, false, not, ◌&&◌, cond}
-use mathlib.Core.List.{List, [], ◌∷◌, ◌++◌, append_assoc, append-nil}
-use Prim.Native.Nat.{ℕ, zero, suc, ◌+◌, ◌-◌, ◌*◌, ◌≤◌}
-use native.Mathlib.Omega.{arith}
-use lib.Dec.{leb}
-use Rattle.std.specs.Prelude.{Some, None}
-use lib.ListN.{length, length-append}
-use borrow.Author.Tests.{leb-true}
+use Rattle.std.proofs.Common.{◌≡◌, refl, sym, ap, ◌∙◌, subst, ◌≢◌, Bool, true, false, not, ◌&&◌, cond, List, [], ◌∷◌, ◌++◌, append_assoc, append-nil, ℕ, zero, suc, ◌+◌, ◌-◌, ◌*◌, ◌≤◌, arith, leb, Some, None, length, length-append, leb-true}
 use Rattle.lists.specs.Words.{overlay, pasted}
 use Rattle.lists.proofs.Tests.{clash}
 use Rattle.lists.proofs.Words.{pasted-front, pasted-pasted}

@@ -1,11 +1,5 @@
 -- Words as the steps store them: by place, where a definition stores them by node; and what a step leaves by whether it fits.
-use mathlib.Core.Path.{◌≡◌, refl, sym, ap, ◌∙◌}
-use mathlib.Core.Logic.{◌≢◌}
-use mathlib.Core.Bool.{Bool, true, false, cond}
-use mathlib.Core.List.{List}
-use Prim.Native.Nat.{ℕ, suc, ◌-◌, ◌≤◌, ◌<◌}
-use native.Mathlib.Omega.{arith}
-use lib.ListN.{length, get_or, set}
+use Rattle.std.proofs.Common.{◌≡◌, refl, sym, ap, ◌∙◌, ◌≢◌, Bool, true, false, cond, List, ℕ, suc, ◌-◌, ◌≤◌, ◌<◌, arith, length, get_or, set}
 use Rattle.lists.specs.Words.{at, put}
 use Rattle.lists.proofs.Words.{at-put, at_other, read_at}
 use Rattle.folding.specs.Machine.{Config, Step, fits, enact}

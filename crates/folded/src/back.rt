@@ -1,5 +1,5 @@
 // The steps back: an edge of the list that was passed is put back; the scan of v ends; v is left while rolling back.
-ghost use Rattle.std.specs.Prelude.{◌≡◌, List, ℕ, ◌+◌, ◌*◌, ◌≤◌, ◌<◌, eqb, length};
+ghost use Rattle.std.specs.Prelude.{◌≡◌, IfSome, List, ℕ, ◌+◌, ◌*◌, ◌≤◌, ◌<◌, eqb, length};
 ghost use Rattle.lists.specs.Words.{at, put};
 ghost use Rattle.graphs.specs.Results.{rest_mark, marks_rest};
 ghost use Rattle.folding.specs.Machine.{scan_mark, rolling_back, relinked, relink, retreat, finish, undo_tree, undo_open};
@@ -47,7 +47,8 @@ pub(crate) fn relink(s: State, after: &mut [u16], made: usize) -> Option<Tried>
 // The tree edge into v, which is a(f) once a(v) is e; none where that is no edge, or where its tail word cannot be a trailer.
 fn tree_edge(s: State, after: &[u16], tail: &[u16]) -> Option<u16>
     requires { Ready s (length after.now) (length tail.now) (s.n + s.m) × (0 < s.f) × (s.f ≤ s.n) }
-    ensures { (marks : List ℕ) → result ≡ upward_in (config_of s after.now tail.now marks) }
+    ensures read { (marks : List ℕ) → result ≡ upward_in (config_of s after.now tail.now marks) }
+    ensures edge { IfSome result (λ r. (s.n < r) × (r ≤ s.n + s.m)) }
 {
     let n = s.n;
     let m = s.m;

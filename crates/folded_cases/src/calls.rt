@@ -1,168 +1,236 @@
-// The calls of the folded search that the cases are of. Those of the panel are in `panels`.
-use crate::areas::{
-    AFTER, BUDGET, CALL, CIRCULAR, Desk, E, EVENTS, F, LOADED, LOADED_TAIL, M, MARKS, N, NEXT,
-    PHASE, SCRIPT, SCRIPTED, START, TAIL, V, before_of, get_at, loaded, said, whole,
-};
-use crate::second::{ENDED, OPEN, REPLAY, RUN, SPENT, STEP, STUCK};
-use images::{Edge, Vertex};
-use states::{Answer, Reason, Reply, State};
+// The calls of the libraries that the cases are of. No other file names the crates that they are in.
+use crate::areas::Links;
+use crate::second::{Answer, Call, Outcome, Reply};
+use crate::state::State;
+use images::{Edge, Image, Vertex};
+use panel::Panel;
+use refusals::Refusal;
 
-// A budget or a number of words; the greatest stands for the greatest there is.
-fn amount(w: u16) -> u32 {
-    if w == 65535 { 4294967295 } else { w as u32 }
+// What a call of the folded search is lent.
+#[derive(Drop)]
+pub(crate) struct Lent<'a> {
+    pub after: &'a mut [u16],
+    pub tail: &'a mut [u16],
+    pub marks: &'a mut [u16],
+    pub events: &'a mut [u16],
 }
 
-// The state on the desk.
-pub(crate) fn state_of(d: &Desk) -> State {
-    State {
-        n: said(d, N),
-        m: said(d, M),
-        start: Vertex(said(d, START)),
-        v: Vertex(said(d, V)),
-        e: Edge(said(d, E)),
-        f: said(d, F),
-        phase: said(d, PHASE),
-        next: said(d, NEXT),
-        circular: said(d, CIRCULAR),
+// What accepting a state answers, and the state.
+#[derive(Clone, Copy, PartialEq, Eq)]
+pub(crate) struct Accepted {
+    pub answer: Answer,
+    pub state: State,
+}
+
+// What the last card of a shift answers, the figure of the shift that ends, and the figure of the next one.
+#[derive(Clone, Copy)]
+pub(crate) struct ShiftEnded {
+    pub accepted: Accepted,
+    pub figure: u32,
+    pub fresh: u32,
+}
+
+impl From<State> for states::State {
+    fn from(s: State) -> states::State {
+        states::State {
+            n: s.n,
+            m: s.m,
+            start: Vertex(s.start),
+            v: Vertex(s.v),
+            e: Edge(s.e),
+            f: s.f,
+            phase: s.phase,
+            next: s.next,
+            circular: s.circular,
+        }
     }
 }
 
-// The script on the desk.
-fn script_of(d: &Desk) -> [u32; 64] {
-    let mut script = [0u32; 64];
-    let mut i: usize = 0;
-    while i < 64 {
-        script[i] = amount(get_at(d, SCRIPT, i));
-        i += 1;
-    }
-    script
-}
-
-fn replay(
-    d: &Desk,
-    after: &mut [u16],
-    tail: &mut [u16],
-    marks: &mut [u16],
-    events: &mut [u16],
-) -> Reply {
-    let script = script_of(d);
-    let words = said(d, SCRIPTED) as usize % 64;
-    let part = &script[0..words];
-    let start = Vertex(said(d, START));
-    walkers::replay(
-        said(d, N),
-        said(d, M),
-        start,
-        after,
-        tail,
-        before_of(d),
-        marks,
-        events,
-        part,
-    )
-}
-
-fn call(
-    d: &Desk,
-    s: State,
-    after: &mut [u16],
-    tail: &mut [u16],
-    marks: &mut [u16],
-    events: &mut [u16],
-) -> Reply {
-    let k = said(d, CALL);
-    if k == REPLAY {
-        return replay(d, after, tail, marks, events);
-    }
-    if k == OPEN {
-        return walkers::open(s.n, s.m, s.start, after, tail, before_of(d), marks, events);
-    }
-    if k == STEP {
-        return walkers::step(s, after, tail, marks, events);
-    }
-    if k == RUN {
-        return walkers::run(s, amount(said(d, BUDGET)), after, tail, marks, events);
-    }
-    walkers::roll_back(s)
-}
-
-// Makes the call on the desk, with what is lent of these areas.
-pub(crate) fn call_lent(
-    d: &Desk,
-    after: &mut [u16],
-    tail: &mut [u16],
-    marks: &mut [u16],
-    events: &mut [u16],
-) -> Reply {
-    call(
-        d,
-        state_of(d),
-        loaded(after, d, AFTER),
-        loaded(tail, d, TAIL),
-        loaded(marks, d, MARKS),
-        loaded(events, d, EVENTS),
-    )
-}
-
-// The number of the recursive search, over the links as loaded and with the same list.
-pub(crate) fn search_lent(d: &Desk, marks: &mut [u16], events: &mut [u16]) -> u16 {
-    let start = Vertex(said(d, START));
-    let after = whole(d, LOADED);
-    let tail = whole(d, LOADED_TAIL);
-    let w = walkers::dfs_recursive(
-        said(d, N),
-        said(d, M),
-        start,
-        after,
-        tail,
-        before_of(d),
-        marks,
-        events,
-    );
-    w.number
-}
-
-// An answer as a number: 0 where the call is taken, the reason of a run, or the number of document 01.
-pub(crate) fn answer_number(a: Answer) -> u16 {
-    match a {
-        Answer::Ran(why) => reason_number(why),
-        Answer::Taken => 0,
-        Answer::Refused(k) => refusal_number(k),
+impl From<states::State> for State {
+    fn from(s: states::State) -> State {
+        State {
+            n: s.n,
+            m: s.m,
+            start: s.start.0,
+            v: s.v.0,
+            e: s.e.0,
+            f: s.f,
+            phase: s.phase,
+            next: s.next,
+            circular: s.circular,
+        }
     }
 }
 
-fn reason_number(why: Reason) -> u16 {
+// What a call that is taken has done, as the second implementation says it.
+fn outcome_of(why: Option<states::Reason>) -> Outcome {
     match why {
-        Reason::Ended => ENDED,
-        Reason::Spent => SPENT,
-        Reason::Stuck => STUCK,
+        Some(states::Reason::Ended) => Outcome::Ended,
+        Some(states::Reason::Spent) => Outcome::Spent,
+        Some(states::Reason::Stuck) => Outcome::Stuck,
+        None => Outcome::Taken,
     }
 }
 
-// 22 for what is no number of a refusal.
-fn refusal_number(k: u16) -> u16 {
-    match k {
-        1..=11 => k,
-        17..=18 => k,
-        _ => 22,
+// A reply of the folded search; of a call that is refused, with the state kept.
+fn reply_of(answer: Result<states::Reply, Refusal>, kept: State) -> Reply {
+    match answer {
+        Ok(reply) => Reply {
+            answer: Ok(outcome_of(reply.why)),
+            steps: reply.steps,
+            events: reply.events,
+            state: reply.state.into(),
+        },
+        Err(refusal) => Reply {
+            answer: Err(refusal.number()),
+            steps: 0,
+            events: 0,
+            state: kept,
+        },
     }
 }
 
-// A field of a state, in the order of the desk.
-pub(crate) fn field(s: State, k: usize) -> u16 {
-    match k {
-        V => s.v.0,
-        E => s.e.0,
-        F => s.f,
-        PHASE => s.phase,
-        NEXT => s.next,
-        CIRCULAR => s.circular,
-        N => s.n,
-        M => s.m,
-        _ => s.start.0,
+// The state of an opening that is refused: the profile and the start alone.
+fn unopened(s: State) -> State {
+    State {
+        v: 0,
+        e: 0,
+        f: 0,
+        phase: 0,
+        next: 0,
+        circular: 0,
+        ..s
     }
 }
 
-pub(crate) fn check_image(n: u16, m: u16, after: &[u16], tail: &[u16]) -> u16 {
-    images::check_image(n, m, after, tail)
+// Makes a call of the folded search.
+pub(crate) fn make_call(call: Call, state: State, before: &[u16], lent: Lent<'_>) -> Reply {
+    let Lent {
+        after,
+        tail,
+        marks,
+        events,
+    } = lent;
+    let s: states::State = state.into();
+    match call {
+        Call::Open => {
+            let g = Image {
+                n: s.n,
+                m: s.m,
+                after: &*after,
+                tail: &*tail,
+            };
+            reply_of(
+                walkers::open(&g, before, s.start, marks, events),
+                unopened(state),
+            )
+        }
+        Call::Run(budget) => reply_of(walkers::run(s, budget, after, tail, marks, events), state),
+        Call::Step => reply_of(walkers::step(s, after, tail, marks, events), state),
+        Call::RollBack => reply_of(walkers::roll_back(s), state),
+    }
+}
+
+// Replays the words of a script.
+pub(crate) fn replay(state: State, before: &[u16], lent: Lent<'_>, script: &[u32]) -> Reply {
+    let Lent {
+        after,
+        tail,
+        marks,
+        events,
+    } = lent;
+    let replayed = walkers::replay(
+        state.n,
+        state.m,
+        after,
+        tail,
+        before,
+        Vertex(state.start),
+        marks,
+        events,
+        script,
+    );
+    match replayed {
+        Ok(r) => Reply {
+            answer: number_of(r.last).map(outcome_of),
+            steps: r.steps,
+            events: r.events,
+            state: r.state.into(),
+        },
+        Err(refusal) => reply_of(Err(refusal), unopened(state)),
+    }
+}
+
+// The recursive search of a profile.
+pub(crate) fn search(
+    state: State,
+    links: &Links,
+    before: &[u16],
+    marks: &mut [u16],
+    events: &mut [u16],
+) -> Result<(), u16> {
+    let g = image_of(state.n, state.m, links);
+    number_of(walkers::dfs_recursive(&g, before, Vertex(state.start), marks, events))?;
+    Ok(())
+}
+
+fn image_of<'a>(n: u16, m: u16, links: &'a Links) -> Image<'a> {
+    Image {
+        n,
+        m,
+        after: &links.after,
+        tail: &links.tail,
+    }
+}
+
+// The number that an image is refused with.
+pub(crate) fn check_image(n: u16, m: u16, links: &Links) -> Result<(), u16> {
+    number_of(images::check_image(&image_of(n, m, links)))
+}
+
+// An answer, with the number of its refusal.
+fn number_of<T>(answer: Result<T, Refusal>) -> Result<T, u16> {
+    answer.map_err(|refusal| refusal.number())
+}
+
+// What accepting a state answers; one that is refused is kept.
+fn accepted_of(answer: Result<states::State, Refusal>, kept: State) -> Accepted {
+    match answer {
+        Ok(state) => Accepted {
+            answer: Ok(Outcome::Taken),
+            state: state.into(),
+        },
+        Err(refusal) => Accepted {
+            answer: Err(refusal.number()),
+            state: kept,
+        },
+    }
+}
+
+// Accepts a state as a card, on a record with a figure: what is answered, and the figure after.
+pub(crate) fn count_card(figure: u32, state: State) -> (Accepted, u32) {
+    match panel::count_card(Panel { figure }, state.into()) {
+        Ok(counted) => (accepted_of(Ok(counted.state), state), counted.panel.figure),
+        Err(refusal) => (accepted_of(Err(refusal), state), figure),
+    }
+}
+
+// Accepts a state as the last card of a shift, on a record with a figure.
+pub(crate) fn end_shift(figure: u32, state: State) -> ShiftEnded {
+    let ended = panel::end_shift(figure, state.into());
+    ShiftEnded {
+        accepted: accepted_of(ended.answer, state),
+        figure: ended.figure,
+        fresh: ended.fresh,
+    }
+}
+
+// The figure once a shift is started, on a record with a figure.
+pub(crate) fn start_shift(figure: u32) -> u32 {
+    panel::shifted(Panel { figure }).figure
+}
+
+// The figure of a new record.
+pub(crate) fn new_figure() -> u32 {
+    panel::new_panel().figure
 }

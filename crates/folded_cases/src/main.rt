@@ -14,71 +14,102 @@ mod chance;
 mod circles;
 mod compare;
 mod drawn;
+mod events;
 mod marks;
 mod moves;
 mod panels;
 mod profiles;
 mod rows;
+mod script;
 mod search;
 mod second;
+mod state;
 mod tally;
-mod turns;
 
-use crate::areas::Desk;
-use crate::tally::{count_case, print_counts};
+use crate::compare::Case;
+use crate::tally::print_head;
+use std::alloc::AllocError;
 use std::io;
 
-fn case(d: &mut Desk, group: u16, i: u16) {
-    match group {
-        0 => cases::faulty_case(d, i),
-        1 => cases::damaged_case(d, i),
-        2 => cases::halted_case(d, i, 2),
-        3 => cases::halted_case(d, i, 34),
-        4 => cases::listed_case(d, i),
-        5 => cases::hostile_case(d, i),
-        6 => cases::long_case(d, i),
-        7 => cases::script_case(d, i),
-        8 => panels::row_case(d, i),
-        9 => panels::state_case(d, i),
-        10 => panels::list_case(d, i),
-        12 => cases::blanked_case(d, i),
-        13 => rows::row_case(d, i),
-        _ => marks::example_case(d, i),
-    }
-}
+// Words enough for a small profile, and for the largest image.
+const SMALL: u16 = 32;
 
-fn run(d: &mut Desk, group: u16, top: u16) {
-    let mut i: u16 = 0;
-    while i < top {
-        case(d, group, i);
-        count_case(d);
-        i += 1;
-    }
-}
+const LARGE: u16 = 5410;
 
-// Runs the first `top` cases of a group and prints what they gave.
-fn print(rt: &impl Print, name: &[u8], group: u16, top: u16) -> io::Result<()> {
-    let mut d = [0u16; 178530];
-    run(&mut d, group, top);
-    print_counts(rt, name, &d)
+// Runs the cases of a group, in areas of this many words, and prints what they gave.
+fn run_group<R: Print + AllocGlobal, F: FnMut(&mut Case, u16) -> Result<(), AllocError>>(
+    rt: &R,
+    name: &str,
+    room: u16,
+    cases: u16,
+    mut run: F,
+) -> io::Result<()>
+    requires { (run : _) (case : _) (i : _) → F.pre run case i }
+{
+    let mut case = Case::new(rt.alloc(), room)?;
+    for i in 0..cases {
+        run(&mut case, i)?;
+        case.finish();
+    }
+    case.tally.print(rt, name, case.second.met)
 }
 
 fn main(rt: HostRuntime) -> io::Result<()> {
-    rt.write_all(
-        b"group,cases,differing,taken,1,2,3,4,5,6,7,8,9,10,11,17,18,ended,spent,stuck,empty,one,some,all,near,last,touched,spared,scanned,cut\n",
+    print_head(&rt)?;
+    run_group(
+        &rt,
+        "openings: every set of faults",
+        SMALL,
+        2048,
+        cases::faulty_case,
     )?;
-    print(&rt, b"openings: every set of faults", 0, 2048)?;
-    print(&rt, b"openings: damaged links", 1, 4000)?;
-    print(&rt, b"openings: damaged lists", 12, 8000)?;
-    print(&rt, b"lists: examples", 13, 86)?;
-    print(&rt, b"halted after every step and resumed", 2, 34560)?;
-    print(&rt, b"halted after every step and rolled back", 3, 17280)?;
-    print(&rt, b"lists of calls", 4, 10000)?;
-    print(&rt, b"states and links by chance", 5, 20000)?;
-    print(&rt, b"limits", 6, 108)?;
-    print(&rt, b"scripts", 7, 10000)?;
-    print(&rt, b"marks: examples", 11, 126)?;
-    print(&rt, b"accepting: examples", 8, 108)?;
-    print(&rt, b"accepting: states by chance", 9, 20000)?;
-    print(&rt, b"panel: lists of orders", 10, 500)
+    run_group(
+        &rt,
+        "openings: damaged links",
+        SMALL,
+        4000,
+        cases::damaged_case,
+    )?;
+    run_group(
+        &rt,
+        "openings: damaged lists",
+        SMALL,
+        8000,
+        cases::blanked_case,
+    )?;
+    run_group(&rt, "lists: examples", SMALL, 86, rows::row_case)?;
+    run_group(
+        &rt,
+        "halted after every step and resumed",
+        SMALL,
+        34560,
+        cases::resumed_case,
+    )?;
+    run_group(
+        &rt,
+        "halted after every step and rolled back",
+        SMALL,
+        17280,
+        cases::rolled_case,
+    )?;
+    run_group(&rt, "lists of calls", SMALL, 10000, cases::listed_case)?;
+    run_group(
+        &rt,
+        "states and links by chance",
+        SMALL,
+        20000,
+        cases::hostile_case,
+    )?;
+    run_group(&rt, "limits", LARGE, 108, cases::long_case)?;
+    run_group(&rt, "scripts", SMALL, 10000, cases::script_case)?;
+    run_group(&rt, "marks: examples", SMALL, 126, marks::example_case)?;
+    run_group(&rt, "accepting: examples", 0, 108, panels::row_case)?;
+    run_group(
+        &rt,
+        "accepting: states by chance",
+        0,
+        20000,
+        panels::state_case,
+    )?;
+    run_group(&rt, "panel: lists of orders", 0, 500, panels::list_case)
 }

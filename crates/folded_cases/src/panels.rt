@@ -1,262 +1,274 @@
 // The calls of the panel, on rows with what is expected, on states and figures by chance, and in lists of orders; compared with accepting
-// on the desk, and with a count of what happened. No other file names the crate that they are in.
-use crate::areas::{
-    ANSWER, CALL, Desk, HIGH, LOW, M, N, PHASE, SCRIPT, SEED, get_at, next, put_at, said, say, word,
-};
-use crate::calls::state_of;
-use crate::compare::note_state;
-use crate::drawn::drawn;
-use crate::second::{ACCEPT, serve};
-use crate::tally::{count_answer, note};
-use crate::turns::{FIELDS, ROWS, each};
-use panel::{Accepted, Panel};
+// in the second implementation, and with a count of what happened.
+use crate::calls::{Accepted, count_card, end_shift, new_figure, start_shift};
+use crate::chance::Chance;
+use crate::compare::Case;
+use crate::drawn::draw_state;
+use crate::second::Outcome;
+use crate::state::{ACCEPTED, ENDED, State, WITHDRAWN};
+use std::alloc::AllocError;
 
-// A row: n, m, start, v, e, f, phase, next, circular, and the figure; the number expected, and the figure after.
-const ROW_COUNT: usize = 54;
+// The words of a state: n, m, the start, v, e, f, phase, next and circular.
+type Words = [u16; 9];
 
-const TABLE: [[u32; 12]; ROW_COUNT] = [
+// A row: a state; the figure; and the figure after, or the number expected, with which the figure stays.
+const TABLE: [(Words, u32, Result<u32, u16>); 54] = [
     // Figures.
-    [2, 3, 1, 1, 0, 0, 3, 3, 0, 0, 0, 1],
-    [2, 3, 1, 1, 0, 0, 3, 3, 0, 1, 0, 2],
-    [2, 3, 1, 1, 0, 0, 3, 3, 0, 65535, 0, 65536],
-    [2, 3, 1, 1, 0, 0, 3, 3, 0, 999998, 0, 999999],
-    [2, 3, 1, 1, 0, 0, 3, 3, 0, 999999, 11, 999999],
-    [2, 3, 1, 1, 0, 0, 3, 3, 0, 1000000, 11, 1000000],
-    [2, 3, 1, 1, 0, 0, 3, 3, 0, 4294967295, 11, 4294967295],
+    ([2, 3, 1, 1, 0, 0, 3, 3, 0], 0, Ok(1)),
+    ([2, 3, 1, 1, 0, 0, 3, 3, 0], 1, Ok(2)),
+    ([2, 3, 1, 1, 0, 0, 3, 3, 0], 65535, Ok(65536)),
+    ([2, 3, 1, 1, 0, 0, 3, 3, 0], 999998, Ok(999999)),
+    ([2, 3, 1, 1, 0, 0, 3, 3, 0], 999999, Err(11)),
+    ([2, 3, 1, 1, 0, 0, 3, 3, 0], 1000000, Err(11)),
+    ([2, 3, 1, 1, 0, 0, 3, 3, 0], 4294967295, Err(11)),
     // Phases.
-    [2, 3, 1, 1, 0, 0, 0, 3, 0, 0, 8, 0],
-    [2, 3, 1, 1, 0, 0, 1, 3, 0, 0, 10, 0],
-    [2, 3, 1, 1, 0, 0, 2, 3, 0, 0, 10, 0],
-    [2, 3, 1, 1, 0, 0, 4, 3, 0, 0, 10, 0],
-    [2, 3, 1, 1, 0, 0, 5, 3, 0, 0, 9, 0],
-    [2, 3, 1, 1, 0, 0, 6, 3, 0, 0, 9, 0],
-    [2, 3, 1, 1, 0, 0, 7, 3, 0, 0, 8, 0],
+    ([2, 3, 1, 1, 0, 0, 0, 3, 0], 0, Err(8)),
+    ([2, 3, 1, 1, 0, 0, 1, 3, 0], 0, Err(10)),
+    ([2, 3, 1, 1, 0, 0, 2, 3, 0], 0, Err(10)),
+    ([2, 3, 1, 1, 0, 0, 4, 3, 0], 0, Err(10)),
+    ([2, 3, 1, 1, 0, 0, 5, 3, 0], 0, Err(9)),
+    ([2, 3, 1, 1, 0, 0, 6, 3, 0], 0, Err(9)),
+    ([2, 3, 1, 1, 0, 0, 7, 3, 0], 0, Err(8)),
     // Sizes.
-    [0, 3, 1, 1, 0, 0, 3, 3, 0, 0, 1, 0],
-    [1001, 3, 1, 1, 0, 0, 3, 3, 0, 0, 1, 0],
-    [1000, 3, 1, 1, 0, 0, 3, 3, 0, 0, 0, 1],
-    [1, 0, 1, 1, 0, 0, 3, 2, 0, 0, 0, 1],
-    [2, 4001, 1, 1, 0, 0, 3, 3, 0, 0, 2, 0],
-    [2, 65535, 1, 1, 0, 0, 3, 3, 0, 0, 2, 0],
-    [2, 4000, 1, 1, 0, 0, 3, 3, 0, 0, 0, 1],
+    ([0, 3, 1, 1, 0, 0, 3, 3, 0], 0, Err(1)),
+    ([1001, 3, 1, 1, 0, 0, 3, 3, 0], 0, Err(1)),
+    ([1000, 3, 1, 1, 0, 0, 3, 3, 0], 0, Ok(1)),
+    ([1, 0, 1, 1, 0, 0, 3, 2, 0], 0, Ok(1)),
+    ([2, 4001, 1, 1, 0, 0, 3, 3, 0], 0, Err(2)),
+    ([2, 65535, 1, 1, 0, 0, 3, 3, 0], 0, Err(2)),
+    ([2, 4000, 1, 1, 0, 0, 3, 3, 0], 0, Ok(1)),
     // The start.
-    [2, 3, 0, 1, 0, 0, 3, 3, 0, 0, 4, 0],
-    [2, 3, 2, 1, 0, 0, 3, 3, 0, 0, 0, 1],
-    [2, 3, 3, 1, 0, 0, 3, 3, 0, 0, 4, 0],
+    ([2, 3, 0, 1, 0, 0, 3, 3, 0], 0, Err(4)),
+    ([2, 3, 2, 1, 0, 0, 3, 3, 0], 0, Ok(1)),
+    ([2, 3, 3, 1, 0, 0, 3, 3, 0], 0, Err(4)),
     // v, e and f.
-    [2, 3, 1, 0, 0, 0, 3, 3, 0, 0, 8, 0],
-    [2, 3, 1, 2, 0, 0, 3, 3, 0, 0, 0, 1],
-    [2, 3, 1, 3, 0, 0, 3, 3, 0, 0, 8, 0],
-    [2, 3, 1, 1, 1, 0, 3, 3, 0, 0, 8, 0],
-    [2, 3, 1, 1, 2, 0, 3, 3, 0, 0, 8, 0],
-    [2, 3, 1, 1, 3, 0, 3, 3, 0, 0, 0, 1],
-    [2, 3, 1, 1, 5, 0, 3, 3, 0, 0, 0, 1],
-    [2, 3, 1, 1, 6, 0, 3, 3, 0, 0, 8, 0],
-    [2, 0, 1, 1, 3, 0, 3, 3, 0, 0, 8, 0],
-    [2, 3, 1, 1, 0, 5, 3, 3, 0, 0, 0, 1],
-    [2, 3, 1, 1, 0, 6, 3, 3, 0, 0, 8, 0],
+    ([2, 3, 1, 0, 0, 0, 3, 3, 0], 0, Err(8)),
+    ([2, 3, 1, 2, 0, 0, 3, 3, 0], 0, Ok(1)),
+    ([2, 3, 1, 3, 0, 0, 3, 3, 0], 0, Err(8)),
+    ([2, 3, 1, 1, 1, 0, 3, 3, 0], 0, Err(8)),
+    ([2, 3, 1, 1, 2, 0, 3, 3, 0], 0, Err(8)),
+    ([2, 3, 1, 1, 3, 0, 3, 3, 0], 0, Ok(1)),
+    ([2, 3, 1, 1, 5, 0, 3, 3, 0], 0, Ok(1)),
+    ([2, 3, 1, 1, 6, 0, 3, 3, 0], 0, Err(8)),
+    ([2, 0, 1, 1, 3, 0, 3, 3, 0], 0, Err(8)),
+    ([2, 3, 1, 1, 0, 5, 3, 3, 0], 0, Ok(1)),
+    ([2, 3, 1, 1, 0, 6, 3, 3, 0], 0, Err(8)),
     // The next label and the circular figure.
-    [2, 3, 1, 1, 0, 0, 3, 1, 0, 0, 8, 0],
-    [2, 3, 1, 1, 0, 0, 3, 2, 0, 0, 0, 1],
-    [2, 3, 1, 1, 0, 0, 3, 4, 0, 0, 8, 0],
-    [2, 3, 1, 1, 0, 0, 3, 3, 1, 0, 0, 1],
-    [2, 3, 1, 1, 0, 0, 3, 3, 2, 0, 8, 0],
+    ([2, 3, 1, 1, 0, 0, 3, 1, 0], 0, Err(8)),
+    ([2, 3, 1, 1, 0, 0, 3, 2, 0], 0, Ok(1)),
+    ([2, 3, 1, 1, 0, 0, 3, 4, 0], 0, Err(8)),
+    ([2, 3, 1, 1, 0, 0, 3, 3, 1], 0, Ok(1)),
+    ([2, 3, 1, 1, 0, 0, 3, 3, 2], 0, Err(8)),
     // Several faults at once.
-    [0, 4001, 0, 0, 0, 0, 0, 3, 0, 999999, 1, 999999],
-    [1001, 4001, 1, 1, 0, 0, 3, 3, 0, 0, 1, 0],
-    [2, 4001, 3, 3, 0, 0, 5, 3, 0, 999999, 2, 999999],
-    [2, 3, 0, 3, 0, 0, 1, 3, 0, 999999, 4, 999999],
-    [2, 3, 3, 1, 0, 0, 3, 3, 2, 0, 4, 0],
-    [2, 3, 1, 3, 0, 0, 5, 3, 0, 999999, 8, 999999],
-    [2, 3, 1, 1, 6, 0, 1, 3, 0, 999999, 8, 999999],
-    [2, 3, 1, 1, 0, 0, 6, 4, 0, 999999, 8, 999999],
-    [2, 3, 1, 1, 0, 0, 3, 3, 2, 999999, 8, 999999],
-    [2, 3, 1, 1, 0, 0, 1, 3, 0, 999999, 10, 999999],
-    [2, 3, 1, 1, 0, 0, 2, 3, 0, 1000000, 10, 1000000],
-    [2, 3, 1, 1, 0, 0, 4, 3, 0, 4294967295, 10, 4294967295],
-    [2, 3, 1, 1, 0, 0, 5, 3, 0, 999999, 9, 999999],
-    [2, 3, 1, 1, 0, 0, 6, 3, 0, 4294967295, 9, 4294967295],
+    ([0, 4001, 0, 0, 0, 0, 0, 3, 0], 999999, Err(1)),
+    ([1001, 4001, 1, 1, 0, 0, 3, 3, 0], 0, Err(1)),
+    ([2, 4001, 3, 3, 0, 0, 5, 3, 0], 999999, Err(2)),
+    ([2, 3, 0, 3, 0, 0, 1, 3, 0], 999999, Err(4)),
+    ([2, 3, 3, 1, 0, 0, 3, 3, 2], 0, Err(4)),
+    ([2, 3, 1, 3, 0, 0, 5, 3, 0], 999999, Err(8)),
+    ([2, 3, 1, 1, 6, 0, 1, 3, 0], 999999, Err(8)),
+    ([2, 3, 1, 1, 0, 0, 6, 4, 0], 999999, Err(8)),
+    ([2, 3, 1, 1, 0, 0, 3, 3, 2], 999999, Err(8)),
+    ([2, 3, 1, 1, 0, 0, 1, 3, 0], 999999, Err(10)),
+    ([2, 3, 1, 1, 0, 0, 2, 3, 0], 1000000, Err(10)),
+    ([2, 3, 1, 1, 0, 0, 4, 3, 0], 4294967295, Err(10)),
+    ([2, 3, 1, 1, 0, 0, 5, 3, 0], 999999, Err(9)),
+    ([2, 3, 1, 1, 0, 0, 6, 3, 0], 4294967295, Err(9)),
 ];
 
-// Word k of a row.
-fn at_row(i: usize, k: usize) -> u32 {
-    TABLE[i % ROW_COUNT][k % 12]
+// Ways to accept a state: as a card, or as the last card of a shift.
+#[derive(Clone, Copy, PartialEq, Eq)]
+enum Way {
+    Card,
+    Last,
 }
 
-// Puts word k of the row on the desk; the sizes and the start come before the other fields.
-pub(crate) fn put_word(d: &mut Desk, k: usize) {
-    let w = at_row(said(d, SEED) as usize, k);
-    say(d, (k % 9 + N) % 9, word(w as u64));
+// What comes of an order.
+#[derive(Clone, Copy, PartialEq, Eq)]
+enum Happened {
+    Card,
+    Shift,
 }
 
-// The figure on the desk.
-fn figure_of(d: &Desk) -> u32 {
-    said(d, HIGH) as u32 * 65536 + said(d, LOW) as u32
-}
-
-fn put_figure(d: &mut Desk, figure: u32) {
-    say(d, HIGH, word(figure as u64 / 65536));
-    say(d, LOW, word(figure as u64));
-}
-
-// Accepts the state on the desk there, and notes where an answer differs.
-fn note_accepted(d: &mut Desk, a: Accepted) {
-    say(d, CALL, ACCEPT);
-    serve(d);
-    let k = a.number;
-    count_answer(d, k);
-    note(d, k != said(d, ANSWER));
-    let s = a.state;
-    note_state(d, s);
-}
-
-// Accepts the state on the desk, on a record whose figure stands there.
-fn count(d: &mut Desk, p: Panel) -> Panel {
-    let r = panel::count_card(p, state_of(d));
-    let a = r.answer;
-    note_accepted(d, a);
-    let left = r.panel;
-    note(d, left.figure != figure_of(d));
-    left
-}
-
-// The figure of the next shift, once the last card of one is answered: where that was refused, the shift goes on.
-fn next_figure(d: &Desk) -> u32 {
-    if said(d, ANSWER) == 0 {
-        return 0;
-    }
-    figure_of(d)
-}
-
-// Accepts it as the last card of a shift.
-fn end(d: &mut Desk, p: Panel) -> Panel {
-    let r = panel::end_shift(p.figure, state_of(d));
-    let a = r.answer;
-    note_accepted(d, a);
-    note(d, r.figure != figure_of(d));
-    note(d, r.fresh != next_figure(d));
-    Panel { figure: r.fresh }
-}
-
-// A shift start, the last card of a shift, or a card.
-fn obey(d: &mut Desk, way: u16, p: Panel) -> Panel {
-    match way {
-        0 => panel::shifted(p),
-        1 => end(d, p),
-        _ => count(d, p),
+// Accepts a state on a figure: the state and the figure after, or the number that is shown.
+fn accept(state: State, figure: u32) -> Result<(State, u32), u16> {
+    state.check_all(false)?;
+    match state.phase {
+        ENDED => {
+            if 999999 <= figure {
+                return Err(11);
+            }
+            let phase = ACCEPTED;
+            Ok((State { phase, ..state }, figure + 1))
+        }
+        WITHDRAWN | ACCEPTED => Err(9),
+        _ => Err(10),
     }
 }
 
-// Accepts the state on the desk in one of two ways, on a record with this figure.
-fn accept_on(d: &mut Desk, way: u16, figure: u32) {
-    put_figure(d, figure);
-    obey(d, way % 2 + 1, Panel { figure });
+// Accepts a state on a record with a figure, and notes where an answer differs from accepting on the figure expected: the record's figure
+// after, and the figure expected after, or the number expected.
+fn compare(
+    case: &mut Case,
+    way: Way,
+    state: State,
+    figure: u32,
+    expected: u32,
+) -> (u32, Result<u32, u16>) {
+    let (told, after) = match accept(state, expected) {
+        Ok((state, after)) => (
+            Accepted {
+                answer: Ok(Outcome::Taken),
+                state,
+            },
+            Ok(after),
+        ),
+        Err(number) => (
+            Accepted {
+                answer: Err(number),
+                state,
+            },
+            Err(number),
+        ),
+    };
+    let (accepted, left, fresh) = match way {
+        Way::Card => {
+            let (accepted, left) = count_card(figure, state);
+            (accepted, left, left)
+        }
+        Way::Last => {
+            let ended = end_shift(figure, state);
+            (ended.accepted, ended.figure, ended.fresh)
+        }
+    };
+    let stays = after.unwrap_or(expected);
+    let begins = if way == Way::Last && after.is_ok() {
+        0
+    } else {
+        stays
+    };
+    case.tally.count_answer(accepted.answer);
+    case.note(accepted != told || left != stays || fresh != begins);
+    (fresh, after)
+}
+
+// The way of a case: cards are accepted in two ways.
+fn way_of(i: u16) -> Way {
+    if i % 2 == 0 { Way::Last } else { Way::Card }
+}
+
+// The state of its words.
+fn state_of(words: &Words) -> State {
+    let [n, m, start, v, e, f, phase, next, circular] = *words;
+    State {
+        n,
+        m,
+        start,
+        v,
+        e,
+        f,
+        phase,
+        next,
+        circular,
+    }
 }
 
 // Each row in two ways.
-pub(crate) fn row_case(d: &mut Desk, i: u16) {
-    let row = i as usize / 2;
-    say(d, SEED, i / 2);
-    each(d, ROWS, 9);
-    accept_on(d, i, at_row(row, 9));
-    note(d, at_row(row, 10) != said(d, ANSWER) as u32);
-    note(d, at_row(row, 11) != figure_of(d));
+pub(crate) fn row_case(case: &mut Case, i: u16) -> Result<(), AllocError> {
+    if let Some(row) = TABLE.get(usize::from(i / 2)) {
+        let state = state_of(&row.0);
+        let figure = row.1;
+        let (_, after) = compare(case, way_of(i), state, figure, figure);
+        case.note(after != row.2);
+    }
+    Ok(())
 }
 
 // A state by chance: in half of the draws in phase 3.
-fn draw_state(d: &mut Desk, seed: u16) {
-    say(d, SEED, seed);
-    say(d, N, next(drawn(d, 9001, 1000)));
-    say(d, M, drawn(d, 9002, 4001));
-    each(d, FIELDS, 9);
-    if drawn(d, 9020, 2) == 0 {
-        say(d, PHASE, 3);
+fn drawn_state(chance: Chance) -> State {
+    let mut state = State::unopened(chance.up_to(9001, 1000), chance.below(9002, 4001), 0);
+    draw_state(&mut state, chance);
+    if chance.below(9020, 2) == 0 {
+        state.phase = ENDED;
     }
+    state
 }
 
 // A figure: small, near the greatest of a word, near its limit, or any.
-fn drawn_figure(d: &Desk) -> u32 {
-    let k = drawn(d, 9021, 5) as u32;
-    match drawn(d, 9022, 5) {
+fn drawn_figure(chance: Chance) -> u32 {
+    let k = u32::from(chance.below(9021, 5));
+    match chance.below(9022, 5) {
         0 => k,
-        1 => k % 5 + 65533,
-        2..=3 => k % 5 + 999996,
-        _ => k % 5 + drawn(d, 9023, 32768) as u32 % 32768 * 131070,
+        1 => k + 65533,
+        2..=3 => k + 999996,
+        _ => k + u32::from(chance.below(9023, 32768)) * 131070,
     }
 }
 
 // Each state by chance in two ways.
-pub(crate) fn state_case(d: &mut Desk, i: u16) {
-    draw_state(d, i / 2);
-    accept_on(d, i, drawn_figure(d));
+pub(crate) fn state_case(case: &mut Case, i: u16) -> Result<(), AllocError> {
+    let chance = Chance { seed: i / 2 };
+    let figure = drawn_figure(chance);
+    let _ = compare(case, way_of(i), drawn_state(chance), figure, figure);
+    Ok(())
 }
 
-// What happened in each order, kept in the script's area: a card, a shift start, or neither.
-const CARD: u16 = 1;
-
-const SHIFT: u16 = 2;
-
-fn happened(d: &Desk, way: u16) -> u16 {
-    if way == 0 {
-        return SHIFT;
-    }
-    if said(d, ANSWER) != 0 {
-        return 0;
-    }
-    if way == 1 { SHIFT } else { CARD }
+// How many cards stand behind the last shift start.
+fn cards_since(orders: &[Happened]) -> u32 {
+    let cards = orders
+        .iter()
+        .rev()
+        .take_while(|order| **order == Happened::Card)
+        .count();
+    u32::try_from(cards).unwrap_or(u32::MAX)
 }
 
-// How many cards stand behind the last shift start in the first `top` places, counted from the last place back.
-fn cards_since(d: &Desk, top: usize) -> u16 {
-    let mut k: u16 = 0;
-    let mut i: usize = top;
-    while i > 0 {
-        i -= 1;
-        let w = get_at(d, SCRIPT, i);
-        if w == SHIFT {
-            return k;
+// Obeys an order by chance on a record with a figure, and adds what comes of it to the orders: the figure after.
+fn obey(
+    case: &mut Case,
+    chance: Chance,
+    figure: u32,
+    orders: &mut Vec<Happened>,
+) -> Result<u32, AllocError> {
+    let way = match chance.below(9024, 16) {
+        0 => {
+            orders.push(Happened::Shift)?;
+            return Ok(start_shift(figure));
         }
-        if w == CARD {
-            k = next(k);
-        }
+        1 => Way::Last,
+        _ => Way::Card,
+    };
+    let (left, after) = compare(case, way, drawn_state(chance), figure, cards_since(orders));
+    if after.is_ok() {
+        orders.push(match way {
+            Way::Last => Happened::Shift,
+            Way::Card => Happened::Card,
+        })?;
     }
-    k
+    Ok(left)
 }
 
-// Order j, by chance. What happened is counted anew before it and after it.
-fn order(d: &mut Desk, j: usize, p: Panel) -> Panel {
-    let at = j % 1000;
-    draw_state(d, next(said(d, SEED)));
-    put_figure(d, cards_since(d, at) as u32);
-    let way = drawn(d, 9024, 16);
-    let left = obey(d, way, p);
-    put_at(d, SCRIPT, at, happened(d, way));
-    note(d, left.figure != cards_since(d, at + 1) as u32);
-    left
-}
-
-fn orders(d: &mut Desk, p: Panel) {
-    let mut left = p;
-    let mut i: usize = 0;
-    while i < 40 {
-        left = order(d, i, left);
-        i += 1;
-    }
-}
-
-// A new record, or one with any figure once a shift is started.
-fn fresh(d: &Desk, i: u16) -> Panel {
+// The figure of a new record, or of one with any figure once a shift is started.
+fn fresh_figure(chance: Chance, i: u16) -> u32 {
     if i % 2 == 0 {
-        return panel::new_panel();
+        new_figure()
+    } else {
+        start_shift(drawn_figure(chance))
     }
-    let figure = drawn_figure(d);
-    panel::shifted(Panel { figure })
 }
 
-// A list of 40 orders by chance.
-pub(crate) fn list_case(d: &mut Desk, i: u16) {
-    say(d, SEED, i % 1000 * 41 + 20000);
-    let p = fresh(d, i);
-    note(d, p.figure != 0);
-    orders(d, p);
+// A list of 40 orders by chance. What happened is counted anew before each order and after it.
+pub(crate) fn list_case(case: &mut Case, i: u16) -> Result<(), AllocError> {
+    let seed = (i % 1000).wrapping_mul(41).wrapping_add(20000);
+    let mut figure = fresh_figure(Chance { seed }, i);
+    case.note(figure != 0);
+    let mut orders = Vec::new(case.alloc);
+    for k in 1..=40 {
+        let chance = Chance {
+            seed: seed.wrapping_add(k),
+        };
+        figure = obey(case, chance, figure, &mut orders)?;
+        case.note(figure != cards_since(&orders));
+    }
+    Ok(())
 }

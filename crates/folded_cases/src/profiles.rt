@@ -1,95 +1,122 @@
-// Profiles: edges made by a fixed rule, and the links that follow from them.
-use crate::areas::{AFTER, Desk, M, N, SEED, TAIL, get_of, less, next, put_at, put_of, said, word};
-use crate::chance::draw;
+// Profiles: edges made by a fixed rule.
+use crate::chance::Chance;
 
 // Families of profiles: by chance, a ring, a star out of a vertex and one into it, all edges out of a few vertices, loops, two parts, a
-// path and edges by chance, edges from lesser to greater vertices, and the printed example of document 01. A seed is of family
-// seed / 1,000.
-pub(crate) const RISING: u16 = 8;
+// path and edges by chance, edges from lesser to greater vertices, and the printed example of document 01.
+#[derive(Clone, Copy, PartialEq, Eq)]
+pub(crate) enum Family {
+    Drawn,
+    Ring,
+    StarOut,
+    StarIn,
+    Few,
+    Loops,
+    Parts,
+    Path,
+    Rising,
+    Example,
+}
 
-pub(crate) const EXAMPLE: u16 = 9;
+impl Family {
+    // The family of a seed: one for each thousand.
+    pub(crate) fn of(seed: u16) -> Family {
+        match seed / 1000 {
+            0 => Family::Drawn,
+            1 => Family::Ring,
+            2 => Family::StarOut,
+            3 => Family::StarIn,
+            4 => Family::Few,
+            6 => Family::Parts,
+            7 => Family::Path,
+            8 => Family::Rising,
+            9 => Family::Example,
+            _ => Family::Loops,
+        }
+    }
+}
+
+// A profile of n vertices and m edges with a start, all of whose edges follow from the family and the draws of a seed.
+#[derive(Clone, Copy)]
+pub(crate) struct Profile {
+    pub n: u16,
+    pub m: u16,
+    pub start: u16,
+    pub chance: Chance,
+}
 
 // The remainder, or 0.
 fn rest(a: u16, b: u16) -> u16 {
     if b == 0 { 0 } else { a % b }
 }
 
-// In the rising family, what the vertex that edge i leaves is one more than: each but the last in turn.
-fn lesser(n: u16, i: u16) -> u16 {
-    rest(i, less(n, 1))
+// A draw with an edge's parity: odd for every second one.
+fn parted(r: u16, i: u16) -> u16 {
+    (r & 0x7fff) * 2 + i % 2
 }
 
-// What the vertex that it leads to is one more than, where r is a draw.
-fn greater(n: u16, i: u16, r: u16) -> u16 {
-    let k = lesser(n, i);
-    let above = rest(r, less(less(n, 1), k));
-    next(word(k as u64 + above as u64))
-}
-
-// What the vertex that edge i leaves is one more than, modulo n; r is a draw.
-fn from_of(family: u16, n: u16, i: u16, r: u16) -> u16 {
-    match family {
-        0 => r,
-        2 => 0,
-        4 => if n == 0 { 0 } else { i / n },
-        6 => r % 32768 * 2 + i % 2,
-        RISING => lesser(n, i),
-        EXAMPLE => less(i, 1),
-        _ => i,
+impl Profile {
+    // In the rising family, what the vertex that edge i leaves is one more than: each but the last in turn.
+    fn lesser(&self, i: u16) -> u16 {
+        rest(i, self.n.saturating_sub(1))
     }
-}
 
-// What the vertex that edge i leads to is one more than, modulo n.
-fn to_of(family: u16, n: u16, i: u16, r: u16) -> u16 {
-    match family {
-        0 => r,
-        1 => next(i),
-        3 => 0,
-        6 => r % 32768 * 2 + i % 2,
-        7 => if i < n { next(i) } else { r },
-        RISING => greater(n, i, r),
-        EXAMPLE => if i < 2 { i + 1 } else { i },
-        _ => i,
+    // What the vertex that it leads to is one more than, where r is a draw.
+    fn greater(&self, i: u16, r: u16) -> u16 {
+        let k = self.lesser(i);
+        let above = rest(r, self.n.saturating_sub(1).saturating_sub(k));
+        k.saturating_add(above).saturating_add(1)
     }
-}
 
-// A vertex at an end of edge i: the one that it leaves, or with 1 for the side the one that it leads to.
-pub(crate) fn end_of(d: &Desk, i: u16, side: u64) -> u16 {
-    let seed = said(d, SEED);
-    let n = said(d, N);
-    let r = draw(seed as u64, i as u64 * 2 + side % 2, n);
-    let k = if side == 0 {
-        from_of(seed / 1000, n, i, r)
-    } else {
-        to_of(seed / 1000, n, i, r)
-    };
-    if n == 0 { 1 } else { next(k % n) }
-}
-
-// The edge that comes i-th onto the lists, in front of those there: backwards, in order of number, or in steps of a prime above every m.
-fn in_order(seed: u16, m: u16, i: u16) -> u16 {
-    if m == 0 {
-        return 0;
+    // A vertex for a number from 0 on, in turn.
+    fn vertex(&self, k: u16) -> u16 {
+        rest(k, self.n).saturating_add(1)
     }
-    match seed % 3 {
-        1 => i,
-        2 => word((i as u64 * 7919 + seed as u64) % m as u64),
-        _ => less(m - 1, i),
+
+    // The draw for an end of edge i.
+    fn draw(&self, i: u16, side: u16) -> u16 {
+        let place = i.wrapping_mul(2).wrapping_add(side);
+        self.chance.below(place, self.n)
     }
-}
 
-// Puts edge i, which leads to x, in front of the list of u.
-pub(crate) fn link(d: &mut Desk, i: u16, u: u16, x: u16) {
-    let e = word(said(d, N) as u64 + i as u64 + 1);
-    put_of(d, AFTER, e, get_of(d, AFTER, u));
-    put_of(d, AFTER, u, e);
-    put_at(d, TAIL, i as usize, x);
-}
+    // The vertex that edge i leaves.
+    pub(crate) fn from(&self, i: u16) -> u16 {
+        let r = self.draw(i, 0);
+        self.vertex(match Family::of(self.chance.seed) {
+            Family::Drawn => r,
+            Family::StarOut => 0,
+            Family::Few => if self.n == 0 { 0 } else { i / self.n },
+            Family::Parts => parted(r, i),
+            Family::Rising => self.lesser(i),
+            Family::Example => i.saturating_sub(1),
+            Family::Ring | Family::StarIn | Family::Loops | Family::Path => i,
+        })
+    }
 
-// Makes the edge that comes i-th.
-pub(crate) fn make_edge(d: &mut Desk, i: usize) {
-    let k = in_order(said(d, SEED), said(d, M), word(i as u64 % 65536));
-    let u = end_of(d, k, 0);
-    let x = end_of(d, k, 1);
-    link(d, k, u, x);
+    // The vertex that edge i leads to.
+    pub(crate) fn to(&self, i: u16) -> u16 {
+        let r = self.draw(i, 1);
+        self.vertex(match Family::of(self.chance.seed) {
+            Family::Drawn => r,
+            Family::Ring => i.saturating_add(1),
+            Family::StarIn => 0,
+            Family::Parts => parted(r, i),
+            Family::Path => if i < self.n { i.saturating_add(1) } else { r },
+            Family::Rising => self.greater(i, r),
+            Family::Example => if i < 2 { i + 1 } else { i },
+            Family::StarOut | Family::Few | Family::Loops => i,
+        })
+    }
+
+    // The edge that comes i-th onto the lists, in front of those there: backwards, in order of number, or in steps of a prime above every m.
+    pub(crate) fn in_order(&self, i: u16) -> u16 {
+        let seed = self.chance.seed;
+        if self.m == 0 {
+            return 0;
+        }
+        match seed % 3 {
+            1 => i,
+            2 => ((u32::from(i) * 7919 + u32::from(seed)) % u32::from(self.m)) as u16,
+            _ => (self.m - 1).saturating_sub(i),
+        }
+    }
 }

@@ -1,91 +1,140 @@
-// The whole search, by a stack of vertices with the edge next to traverse of each, over the links as loaded.
-use crate::areas::{
-    CIRCLE, COLOURS, DEPTH, Desk, FOUND, LABELS, LIST, LOADED, LOADED_TAIL, PLACES, STACK, START,
-    WORDS, get_at, get_of, nodes, put_at, put_of, raise, said, say, tail_place,
-};
-use crate::turns::{BLANKS, SEARCHED, ZEROS, each};
+// The whole search, by a stack of vertices with the edge next to traverse of each.
+use crate::areas::{Links, place_of, put_of, word_of};
+use crate::events::{Event, Kind};
+use crate::state::State;
+use std::alloc::{AllocError, Global};
 
-// The colour of a vertex on the stack, and of one that was there.
-const GREY: u16 = 1;
-
-const BLACK: u16 = 2;
-
-fn list(d: &mut Desk, w: u16) {
-    let at = said(d, WORDS) as usize;
-    put_at(d, LIST, at, w);
-    raise(d, WORDS, 1);
+// A vertex before it is labelled, while it is on the stack, and once it was there.
+#[derive(Clone, Copy, PartialEq, Eq)]
+enum Colour {
+    White,
+    Grey,
+    Black,
 }
 
-fn emit(d: &mut Desk, kind: u16, edge: u16, u: u16) {
-    list(d, kind);
-    list(d, edge);
-    list(d, u);
+// A vertex on the stack, and the edge next to traverse of it, or 0.
+#[derive(Clone, Copy)]
+struct Place {
+    vertex: u16,
+    edge: u16,
 }
 
-// What is next to traverse in place k of the stack: the edge behind node x.
-fn go_behind(d: &mut Desk, k: usize, x: u16) {
-    put_at(d, PLACES, k, get_of(d, LOADED, x));
+// What a search finds: the marks and the events at its end, how many labels there are, and whether an edge led to a vertex on the stack.
+#[derive(Drop)]
+pub(crate) struct Found {
+    pub marks: Vec<u16>,
+    pub events: Vec<Event>,
+    pub labels: u16,
+    pub is_circular: bool,
 }
 
-// Labels x and begins its scan, in place k of the stack.
-fn push(d: &mut Desk, k: u16, x: u16) {
-    raise(d, LABELS, 1);
-    put_of(d, FOUND, x, said(d, LABELS));
-    put_of(d, COLOURS, x, GREY);
-    emit(d, 1, 0, x);
-    say(d, DEPTH, k);
-    put_at(d, STACK, k as usize, x);
-    go_behind(d, k as usize, x);
+// A search that is under way over some links.
+#[derive(Drop)]
+struct Search<'a> {
+    links: &'a Links,
+    n: u16,
+    stack: Vec<Place>,
+    colours: Vec<Colour>,
+    found: Found,
 }
 
-// Traverses the edge e, which leaves u, the vertex in place k of the stack.
-fn edge(d: &mut Desk, k: u16, u: u16, e: u16) {
-    let x = get_at(d, LOADED_TAIL, tail_place(d, e));
-    if get_of(d, FOUND, x) == 0 {
-        emit(d, 2, e, u);
-        return push(d, k % 65535 + 1, x);
+impl Search<'_> {
+    // Tells an event.
+    fn emit(&mut self, kind: Kind, edge: u16, vertex: u16) -> Result<(), AllocError> {
+        self.found.events.push(Event { kind, edge, vertex })?;
+        Ok(())
     }
-    emit(d, 3, e, u);
-    emit(d, 4, e, u);
-    if get_of(d, COLOURS, x) == GREY {
-        say(d, CIRCLE, 1);
+
+    // The colour of vertex x.
+    fn colour(&self, x: u16) -> Option<Colour> {
+        self.colours.get(place_of(x)?).copied()
     }
-    go_behind(d, k as usize, e);
+
+    // Gives vertex x a colour.
+    fn paint(&mut self, x: u16, colour: Colour) {
+        if let Some(place) = place_of(x)
+            && let Some(c) = self.colours.get_mut(place)
+        {
+            *c = colour;
+        }
+    }
+
+    // Labels x and begins its scan.
+    fn push(&mut self, x: u16) -> Result<(), AllocError> {
+        self.found.labels = self.found.labels.saturating_add(1);
+        put_of(&mut self.found.marks, x, self.found.labels);
+        self.paint(x, Colour::Grey);
+        self.emit(Kind::Label, 0, x)?;
+        let edge = word_of(&self.links.after, x);
+        self.stack.push(Place { vertex: x, edge })?;
+        Ok(())
+    }
+
+    // Traverses an edge that leaves u, and is the next of it.
+    fn traverse(&mut self, u: u16, edge: u16) -> Result<(), AllocError> {
+        let x = word_of(&self.links.tail, edge.saturating_sub(self.n));
+        if word_of(&self.found.marks, x) == 0 {
+            self.stack.push(Place { vertex: u, edge })?;
+            self.emit(Kind::Advance, edge, u)?;
+            return self.push(x);
+        }
+        self.emit(Kind::Reach, edge, u)?;
+        self.emit(Kind::Return, edge, u)?;
+        if self.colour(x) == Some(Colour::Grey) {
+            self.found.is_circular = true;
+        }
+        let next = word_of(&self.links.after, edge);
+        self.stack.push(Place {
+            vertex: u,
+            edge: next,
+        })?;
+        Ok(())
+    }
+
+    // Ends the scan of u, and goes back to the vertex below it on the stack, if there is one.
+    fn go_back(&mut self, u: u16) -> Result<(), AllocError> {
+        self.emit(Kind::Scan, 0, u)?;
+        self.paint(u, Colour::Black);
+        if let Some(Place { vertex, edge }) = self.stack.pop() {
+            self.emit(Kind::Retreat, edge, vertex)?;
+            let next = word_of(&self.links.after, edge);
+            self.stack.push(Place { vertex, edge: next })?;
+        }
+        Ok(())
+    }
 }
 
-// Goes back to place k of the stack, if there is one.
-fn go_back(d: &mut Desk, k: usize) {
-    if k == 0 {
-        return;
+// The search of a state's profile. The elements already on the blank have a mark, and no colour.
+pub(crate) fn find(
+    alloc: Global,
+    links: &Links,
+    state: &State,
+    blank: &[u16],
+) -> Result<Found, AllocError> {
+    let n = state.n;
+    let mut search = Search {
+        links,
+        n,
+        stack: Vec::new(alloc),
+        colours: vec![in alloc; Colour::White; usize::from(n)]?,
+        found: Found {
+            marks: blank.to_vec(alloc)?,
+            events: Vec::new(alloc),
+            labels: 0,
+            is_circular: false,
+        },
+    };
+    search.push(state.start)?;
+    for _ in 0..state.nodes() {
+        let Some(Place { vertex, edge }) = search.stack.pop() else {
+            break;
+        };
+        if edge == 0 {
+            search.go_back(vertex)?;
+        } else {
+            search.traverse(vertex, edge)?;
+        }
     }
-    let e = get_at(d, PLACES, k);
-    let u = get_at(d, STACK, k);
-    emit(d, 5, e, u);
-    go_behind(d, k, e);
-}
-
-// One turn of the search, as long as there is one.
-pub(crate) fn turn_search(d: &mut Desk) {
-    let k = said(d, DEPTH);
-    if k == 0 {
-        return;
-    }
-    let u = get_at(d, STACK, k as usize);
-    let e = get_at(d, PLACES, k as usize);
-    if e != 0 {
-        return edge(d, k, u, e);
-    }
-    emit(d, 6, 0, u);
-    put_of(d, COLOURS, u, BLACK);
-    say(d, DEPTH, k - 1);
-    go_back(d, k as usize - 1);
-}
-
-// The search of the profile on the desk. The elements already on the blank have a mark, and no colour.
-pub(crate) fn search(d: &mut Desk) {
-    let top = nodes(d);
-    each(d, BLANKS + FOUND, top);
-    each(d, ZEROS + COLOURS, top);
-    push(d, 1, said(d, START));
-    each(d, SEARCHED, top);
+    let Search { found, .. } = search;
+    Ok(found)
 }

@@ -1,353 +1,326 @@
-// The second implementation of the calls, on the desk: the number of a call as the first field that is out of its bounds, and what the
-// call does.
-use crate::areas::{
-    AFTER, ANSWER, AT, BASE, BEFORE, BEFORE_WORDS, BLANK, BUDGET, CALL, CASE, CIRCULAR, CROSSED,
-    Desk, E, F, HIGH, LENGTHS, LOW, M, MADE, MARKS, N, NEXT, PHASE, SCRIPT, SCRIPTED, START, STEPS,
-    TAIL, TOTAL, V, WHOLE, get_at, get_of, less, nodes, put_at, put_of, raise, said, say, whole,
-    word,
-};
+// The second implementation of the calls: the number of a call as the first field that is out of its bounds, and what the call does.
+use crate::areas::{Lengths, Links, UNTOUCHED, put_of, word_of};
 use crate::calls::check_image;
-use crate::moves::{ON_BLANK, UNSCANNED, emit, step};
-use crate::turns::{BLANKS, CROSSES, ZEROS, each};
+use crate::events::{Event, Kind};
+use crate::moves::{ON_BLANK, Stored, UNSCANNED};
+use crate::script::Line;
+use crate::state::{ROLLING_BACK, SCANNING, State};
+use std::alloc::{AllocError, AllocFailed, Global};
 
-// The calls by number, as in a script; the opening is 0, a script 4, and accepting 5.
-pub(crate) const OPEN: u16 = 0;
+// The calls of the folded search; a run has a budget.
+#[derive(Clone, Copy, PartialEq, Eq)]
+pub(crate) enum Call {
+    Open,
+    Run(u32),
+    Step,
+    RollBack,
+}
 
-pub(crate) const RUN: u16 = 1;
+// What a call answers that is taken: for a run, why it stopped.
+#[derive(Clone, Copy, PartialEq, Eq)]
+pub(crate) enum Outcome {
+    Taken,
+    Ended,
+    Spent,
+    Stuck,
+}
 
-pub(crate) const STEP: u16 = 2;
+// What a call answers, or the number that it is refused with.
+pub(crate) type Answer = Result<Outcome, u16>;
 
-pub(crate) const ORDER: u16 = 3;
+// The answer, the steps made, the number of events told, and the state.
+#[derive(Clone, Copy, PartialEq, Eq)]
+pub(crate) struct Reply {
+    pub answer: Answer,
+    pub steps: u32,
+    pub events: usize,
+    pub state: State,
+}
 
-pub(crate) const REPLAY: u16 = 4;
+// Why a call is not done: it is refused with a number, or no memory is left.
+#[derive(Drop)]
+pub(crate) enum Fault {
+    Refused(u16),
+    OutOfMemory(AllocError),
+}
 
-pub(crate) const ACCEPT: u16 = 5;
-
-// Answers that are no number with which these calls are refused: a run ended, spent, stuck.
-pub(crate) const ENDED: u16 = 19;
-
-pub(crate) const SPENT: u16 = 20;
-
-pub(crate) const STUCK: u16 = 21;
-
-// The least length of an area: after, tail, marks, events.
-pub(crate) fn least_length(d: &Desk, area: usize) -> usize {
-    match area {
-        1 => said(d, M) as usize,
-        3 => least_events(said(d, CALL), said(d, BUDGET)),
-        _ => nodes(d),
+impl From<u16> for Fault {
+    fn from(number: u16) -> Fault {
+        Fault::Refused(number)
     }
 }
 
-fn least_events(call: u16, budget: u16) -> usize {
-    match call {
-        RUN => budget as usize * 6,
-        STEP => 6,
-        _ => 3,
+impl From<AllocError> for Fault {
+    fn from(e: AllocError) -> Fault {
+        Fault::OutOfMemory(e)
     }
 }
 
-// Whether an area is lent shorter than stated. A roll-back order is lent none, and so is accepting.
-fn is_short(d: &Desk) -> bool {
-    if said(d, CALL) > STEP {
-        return false;
+// How often an edge was met to a vertex marked 65,535; the end of a roll-back left such a mark; a scan took one.
+#[derive(Clone, Copy, Default)]
+pub(crate) struct Met {
+    pub touched: u32,
+    pub spared: u32,
+    pub scanned: u32,
+}
+
+// The areas and the state of the second implementation, and what it keeps of its calls so far.
+#[derive(Drop)]
+pub(crate) struct Second {
+    alloc: Global,
+    // What the calls are lent, and of each area how much; of the area for events, how many words it has.
+    pub links: Links,
+    pub marks: Vec<u16>,
+    pub lengths: Lengths,
+    pub room: usize,
+    // The list of the elements already on the blank, as lent; and the marks from before the start is labelled: 65,535 for these, else 0.
+    pub before: Vec<u16>,
+    pub blank: Vec<u16>,
+    // The state, the events so far, the steps of the last call and of all.
+    pub state: State,
+    pub events: Vec<Event>,
+    steps: u32,
+    pub total: u32,
+    pub stored: Vec<Stored>,
+    pub met: Met,
+}
+
+impl Second {
+    // Areas of this many words, those for events ten times as many.
+    pub(crate) fn new(alloc: Global, room: u16) -> Result<Second, AllocError> {
+        let words = usize::from(room);
+        Ok(Second {
+            alloc,
+            links: Links::new(alloc, words)?,
+            marks: vec![in alloc; 0; words]?,
+            lengths: Lengths::default(),
+            room: words * 10,
+            before: Vec::new(alloc),
+            blank: Vec::new(alloc),
+            state: State::unopened(0, 0, 0),
+            events: Vec::new(alloc),
+            steps: 0,
+            total: 0,
+            stored: Vec::new(alloc),
+            met: Met::default(),
+        })
     }
-    let mut i: usize = 0;
-    while i < 4 {
-        if (said(d, LENGTHS + i) as usize) < least_length(d, i) {
-            return true;
+
+    // Forgets the calls and the list of a case; the links and the marks stay.
+    pub(crate) fn clear(&mut self) {
+        self.before.clear();
+        self.state = State::unopened(0, 0, 0);
+        self.events.clear();
+        self.total = 0;
+    }
+
+    // Sets the sizes and the start, and lends each area longer than an opening needs by three words.
+    pub(crate) fn size(&mut self, n: u16, m: u16, start: u16) {
+        self.state = State::unopened(n, m, start);
+        let nodes = usize::from(self.state.nodes());
+        self.lengths = Lengths {
+            after: nodes + 3,
+            tail: usize::from(m) + 3,
+            marks: nodes + 3,
+            events: 6,
+        };
+    }
+
+    // Takes every edge off the lists.
+    pub(crate) fn unlink(&mut self) {
+        let nodes = usize::from(self.state.nodes());
+        for word in self.links.after.iter_mut().take(nodes) {
+            *word = 0;
         }
-        i += 1;
     }
-    false
-}
 
-// The least and the greatest value of a field; of e, where it is not 0.
-pub(crate) fn least(d: &Desk, field: usize) -> usize {
-    match field {
-        M => 0,
-        E => said(d, N) as usize + 1,
-        F => 0,
-        NEXT => 2,
-        CIRCULAR => 0,
-        _ => 1,
+    // Puts edge i, which leads to x, in front of the list of u.
+    pub(crate) fn link(&mut self, i: u16, u: u16, x: u16) {
+        let place = i.saturating_add(1);
+        let e = place.saturating_add(self.state.n);
+        let next = word_of(&self.links.after, u);
+        put_of(&mut self.links.after, e, next);
+        put_of(&mut self.links.after, u, e);
+        put_of(&mut self.links.tail, place, x);
     }
-}
 
-pub(crate) fn greatest(d: &Desk, field: usize) -> usize {
-    match field {
-        N => 1000,
-        M => 4000,
-        E..=F => nodes(d),
-        PHASE => 6,
-        NEXT => said(d, N) as usize + 1,
-        CIRCULAR => 1,
-        _ => said(d, N) as usize,
+    // Lends as many event words as are asked for, of those that are left of a whole.
+    pub(crate) fn lend_events(&mut self, whole: usize, asked: u32) {
+        let left = whole.saturating_sub(self.told_words());
+        self.lengths.events = left.min(asked as usize);
     }
-}
 
-fn is_within(d: &Desk, field: usize) -> bool {
-    let w = said(d, field) as usize;
-    if w < least(d, field) {
-        if field != E {
-            return false;
+    // How many words the events so far are.
+    pub(crate) fn told_words(&self) -> usize {
+        self.events.len().saturating_mul(3)
+    }
+
+    // The area for events.
+    pub(crate) fn event_words(&self) -> Result<Vec<u16>, AllocError> {
+        let mut words = Vec::with_capacity(self.alloc, self.room)?;
+        for event in self.events.iter() {
+            words.extend_from_slice(&event.words())?;
         }
-        return w == 0;
+        words.resize(self.room, UNTOUCHED)?;
+        Ok(words)
     }
-    w <= greatest(d, field)
-}
 
-// The number that a field shows, or 0. The lengths come before the start.
-fn field_number(d: &Desk, field: usize) -> u16 {
-    if field == START {
-        if is_short(d) {
-            return 3;
+    // Whether an area is lent shorter than the call states. A roll-back order is lent none.
+    fn is_short(&self, call: Call) -> bool {
+        let events = match call {
+            Call::Open => 3,
+            Call::Run(budget) => budget as usize * 6,
+            Call::Step => 6,
+            Call::RollBack => return false,
+        };
+        let nodes = usize::from(self.state.nodes());
+        let lent = self.lengths;
+        lent.after < nodes
+            || lent.tail < usize::from(self.state.m)
+            || lent.marks < nodes
+            || lent.events < events
+    }
+
+    // The number that the fields and the lengths show; of an opening, the sizes and the start alone.
+    fn check(&self, call: Call) -> Result<(), u16> {
+        let is_short = self.is_short(call);
+        if call == Call::Open {
+            self.state.check_sizes(is_short)
+        } else {
+            self.state.check_all(is_short)
         }
     }
-    if is_within(d, field) {
-        return 0;
-    }
-    match field {
-        N => 1,
-        M => 2,
-        START => 4,
-        _ => 8,
-    }
-}
 
-// The first number that a field shows, or 0: the sizes and the start before the others.
-fn fields_number(d: &Desk, top: usize) -> u16 {
-    let mut i: usize = 0;
-    while i < top {
-        let k = field_number(d, (i % 9 + N) % 9);
-        if k != 0 {
-            return k;
+    // Crosses the vertices, from 1 to n, off the list of elements already on the blank, and marks them: whether all of the list is crossed
+    // off. One that is not strictly rising, or leaves 1 to n, is not.
+    pub(crate) fn cross_all(&mut self) -> Result<bool, AllocError> {
+        self.blank.clear();
+        self.blank.resize(usize::from(self.state.nodes()), 0)?;
+        let mut rest = self.before.iter().copied().peekable();
+        for (x, mark) in (1..=self.state.n).zip(self.blank.iter_mut()) {
+            if rest.next_if_eq(&x).is_some() {
+                *mark = ON_BLANK;
+            }
         }
-        i += 1;
+        Ok(rest.peek().is_none())
     }
-    0
-}
 
-fn is_over(d: &Desk) -> bool {
-    match said(d, PHASE) {
-        3 => true,
-        5..=6 => true,
-        _ => false,
-    }
-}
-
-// Crosses vertex i + 1 off the list of elements already on the blank, where it is the next there, and marks it.
-pub(crate) fn cross(d: &mut Desk, i: usize) {
-    let k = said(d, CROSSED);
-    if k == said(d, BEFORE_WORDS) {
-        return;
-    }
-    if get_at(d, BEFORE, k as usize) == word(i as u64 % 65536 + 1) {
-        put_at(d, BLANK, i, ON_BLANK);
-        raise(d, CROSSED, 1);
-    }
-}
-
-// Crosses the vertices off that list, from 1 to n. One that is not strictly rising, or leaves 1 to n, is not crossed off as a whole.
-pub(crate) fn cross_all(d: &mut Desk) {
-    say(d, CROSSED, 0);
-    each(d, ZEROS + BLANK, nodes(d));
-    each(d, CROSSES, said(d, N) as usize);
-}
-
-// What that list shows, once it is crossed off as far as it can be, or 0.
-fn list_number(d: &Desk) -> u16 {
-    if said(d, CROSSED) != said(d, BEFORE_WORDS) {
-        return 17;
-    }
-    if get_of(d, BLANK, said(d, START)) == 0 {
-        0
-    } else {
-        18
-    }
-}
-
-fn open_number(d: &Desk) -> u16 {
-    let k = fields_number(d, 3);
-    if k != 0 {
-        return k;
-    }
-    let j = check_image(said(d, N), said(d, M), whole(d, AFTER), whole(d, TAIL));
-    if j != 0 {
-        return j;
-    }
-    list_number(d)
-}
-
-// Whether the figure is too great: 999,999 is 15 times 65,536 and 16,959.
-fn is_full(d: &Desk) -> bool {
-    match said(d, HIGH) {
-        0..=14 => false,
-        15 => said(d, LOW) >= 16959,
-        _ => true,
-    }
-}
-
-// What the phase shows when a state is accepted, and then the figure, or 0.
-fn accept_number(d: &Desk) -> u16 {
-    match said(d, PHASE) {
-        3 => if is_full(d) { 11 } else { 0 },
-        5..=6 => 9,
-        _ => 10,
-    }
-}
-
-// The number of the call on the desk, or 0.
-fn number(d: &Desk, call: u16) -> u16 {
-    if call == OPEN {
-        return open_number(d);
-    }
-    let k = fields_number(d, 9);
-    if k != 0 {
-        return k;
-    }
-    if call == RUN {
-        return 0;
-    }
-    if call == ACCEPT {
-        return accept_number(d);
-    }
-    if is_over(d) { 9 } else { 0 }
-}
-
-// An opening that is taken.
-fn open(d: &mut Desk, start: u16) -> u16 {
-    each(d, BLANKS + MARKS, nodes(d));
-    put_of(d, MARKS, start, UNSCANNED + 1);
-    emit(d, 1, 0, start);
-    say(d, V, start);
-    say(d, E, get_of(d, AFTER, start));
-    say(d, PHASE, 1);
-    say(d, NEXT, 2);
-    0
-}
-
-// A step of a run, or why there is none.
-fn try_step(d: &mut Desk) -> u16 {
-    if is_over(d) {
-        return ENDED;
-    }
-    if said(d, STEPS) == said(d, BUDGET) {
-        return SPENT;
-    }
-    if step(d) {
-        raise(d, STEPS, 1);
-        return 0;
-    }
-    STUCK
-}
-
-fn run(d: &mut Desk, budget: u16) -> u16 {
-    let mut i: u16 = 0;
-    while i < budget {
-        let k = try_step(d);
-        if k != 0 {
-            return k;
+    // The opening.
+    fn open(&mut self) -> Result<Outcome, Fault> {
+        let State { n, m, start, .. } = self.state;
+        self.state = State::unopened(n, m, start);
+        self.check(Call::Open)?;
+        check_image(n, m, &self.links)?;
+        if !self.cross_all()? {
+            return Err(Fault::Refused(17));
         }
-        i += 1;
+        if word_of(&self.blank, start) != 0 {
+            return Err(Fault::Refused(18));
+        }
+        for (mark, blank) in self.marks.iter_mut().zip(self.blank.iter()) {
+            *mark = *blank;
+        }
+        put_of(&mut self.marks, start, UNSCANNED + 1);
+        self.emit(Kind::Label, 0, start)?;
+        self.state.v = start;
+        self.state.e = word_of(&self.links.after, start);
+        self.state.phase = SCANNING;
+        self.state.next = 2;
+        Ok(Outcome::Taken)
     }
-    try_step(d)
-}
 
-fn single(d: &mut Desk) -> u16 {
-    if step(d) {
-        say(d, STEPS, 1);
-        return 0;
+    // Steps until all is over, the budget is spent, or a word is out of kind.
+    fn run(&mut self, budget: u32) -> Result<Outcome, Fault> {
+        self.check(Call::Run(budget))?;
+        for steps in 0..budget {
+            self.steps = steps;
+            if self.state.is_over() {
+                return Ok(Outcome::Ended);
+            }
+            match self.step() {
+                Ok(()) => {}
+                Err(Fault::Refused(_)) => return Ok(Outcome::Stuck),
+                Err(e) => return Err(e),
+            }
+        }
+        self.steps = budget;
+        Ok(if self.state.is_over() {
+            Outcome::Ended
+        } else {
+            Outcome::Spent
+        })
     }
-    8
-}
 
-fn order(d: &mut Desk) -> u16 {
-    say(d, PHASE, 4);
-    0
-}
-
-// One more card.
-fn accept(d: &mut Desk) -> u16 {
-    say(d, PHASE, 6);
-    raise(d, LOW, 1);
-    if said(d, LOW) == 0 {
-        raise(d, HIGH, 1);
+    // Refuses a call where all is over.
+    fn check_going(&self, call: Call) -> Result<(), Fault> {
+        self.check(call)?;
+        if self.state.is_over() {
+            Err(Fault::Refused(9))
+        } else {
+            Ok(())
+        }
     }
-    0
-}
 
-// What a call does that no field turns back: its answer.
-fn act(d: &mut Desk, call: u16) -> u16 {
-    match call {
-        RUN => run(d, said(d, BUDGET)),
-        STEP => single(d),
-        ORDER => order(d),
-        ACCEPT => accept(d),
-        _ => open(d, said(d, START)),
+    // A single step.
+    fn single(&mut self) -> Result<Outcome, Fault> {
+        self.check_going(Call::Step)?;
+        self.step()?;
+        self.steps = 1;
+        Ok(Outcome::Taken)
     }
-}
 
-// What is answered; the next call goes on behind the events of this one.
-fn settle(d: &mut Desk, answer: u16) {
-    let at = said(d, AT);
-    say(d, ANSWER, answer);
-    say(d, MADE, less(at, said(d, BASE)) / 3);
-    say(d, BASE, at);
-    raise(d, TOTAL, said(d, STEPS));
-}
-
-// The call on the desk.
-pub(crate) fn serve(d: &mut Desk) {
-    let call = said(d, CALL);
-    say(d, STEPS, 0);
-    if call == OPEN {
-        cross_all(d);
-        each(d, ZEROS + CASE, 6);
+    // The order to roll back.
+    fn roll_back(&mut self) -> Result<Outcome, Fault> {
+        self.check_going(Call::RollBack)?;
+        self.state.phase = ROLLING_BACK;
+        Ok(Outcome::Taken)
     }
-    let k = number(d, call);
-    let answer = if k == 0 { act(d, call) } else { k };
-    settle(d, answer);
-}
 
-// Lends as many event words as are asked for, of those that are left.
-fn lend_events(d: &mut Desk, asked: u16) {
-    let left = less(said(d, WHOLE), said(d, BASE));
-    say(d, LENGTHS + 3, less(left, less(left, asked)));
-}
-
-// Puts call i of the script on the desk.
-pub(crate) fn read_call(d: &mut Desk, i: usize) {
-    let at = i % 65536 * 3;
-    say(d, CALL, get_at(d, SCRIPT, at));
-    say(d, BUDGET, get_at(d, SCRIPT, at + 1));
-    lend_events(d, get_at(d, SCRIPT, at + 2));
-}
-
-fn play(d: &mut Desk, i: usize) {
-    read_call(d, i);
-    match said(d, CALL) {
-        1..=3 => serve(d),
-        _ => {}
+    // What a call does, and answers.
+    fn act(&mut self, call: Call) -> Result<Outcome, Fault> {
+        match call {
+            Call::Open => self.open(),
+            Call::Run(budget) => self.run(budget),
+            Call::Step => self.single(),
+            Call::RollBack => self.roll_back(),
+        }
     }
-}
 
-fn play_all(d: &mut Desk, top: usize) {
-    let mut i: usize = 0;
-    while i < top {
-        play(d, i);
-        i += 1;
+    // Serves a call.
+    pub(crate) fn serve(&mut self, call: Call) -> Result<Reply, AllocError> {
+        let told = self.events.len();
+        self.steps = 0;
+        let answer = match self.act(call) {
+            Ok(outcome) => Ok(outcome),
+            Err(Fault::Refused(number)) => Err(number),
+            Err(Fault::OutOfMemory(e)) => return Err(e),
+        };
+        self.total = self.total.saturating_add(self.steps);
+        Ok(Reply {
+            answer,
+            steps: self.steps,
+            events: self.events.len().saturating_sub(told),
+            state: self.state,
+        })
     }
-}
 
-// The script on the desk: the last answer, and the steps and events of all calls.
-pub(crate) fn replay(d: &mut Desk) {
-    say(d, WHOLE, said(d, LENGTHS + 3));
-    say(d, CALL, OPEN);
-    serve(d);
-    if said(d, ANSWER) == 0 {
-        play_all(d, said(d, SCRIPTED) as usize / 3);
+    // Opens, and serves the calls of a script: the last answer, and the steps and events of all calls.
+    pub(crate) fn replay(&mut self, script: &[Line]) -> Result<Reply, AllocError> {
+        let whole = self.lengths.events;
+        let mut answer = self.serve(Call::Open)?.answer;
+        if answer.is_ok() {
+            for line in script {
+                if let Some(call) = line.call() {
+                    self.lend_events(whole, line.words);
+                    answer = self.serve(call)?.answer;
+                }
+            }
+        }
+        Ok(Reply {
+            answer,
+            steps: self.total,
+            events: self.events.len(),
+            state: self.state,
+        })
     }
-    say(d, STEPS, said(d, TOTAL));
-    say(d, MADE, said(d, AT) / 3);
 }

@@ -41,7 +41,7 @@ use Rattle.walks.proofs.Numbers.{own-long}
 use Rattle.report.specs.declared.walk.Totals.{Totals}
 use Rattle.report.specs.Printed.{event_names, total_names, event_rows, printed_of, walk_printed}
 use Rattle.report.specs.Inside.{rows, printed_from, totals_in, CanWalk}
-use Rattle.report.specs.Report.{graph_from, walk_from, lent_areas, reported, report_of, told}
+use Rattle.report.specs.Report.{graph_from, walk_from, lent_areas, reported, report_of, telling}
 use Rattle.report.proofs.Rows.{rows-events}
 use Rattle.report.proofs.Judged.{Long, long-areas, reading-long, said-loaded}
 
@@ -222,7 +222,7 @@ module _ (text after tail marks events output : List ℕ) {is-long : Bool} (e : 
 
     -- What is reported of the walk.
     pub walk-reported : (bytes : ℕ) (after'' tail'' marks' output' : List ℕ) → after'' ≡ after' → tail'' ≡ tail' → marks' ≡ marks_left (n + m) [] (depth_walk left [] start) marks → bytes ≡ length (printed_from events' t) → output' ≡ overlay (printed_from events' t) output
-        → told (record { number = 0; bytes = bytes }) after'' tail'' marks' events' output' ≡ report_of text after tail marks events output
+        → telling 0 bytes after'' tail'' marks' events' output' ≡ report_of text after tail marks events output
     unfolding report_of
     walk-reported bytes after'' tail'' marks' output' a l k b o =
         let bytes-is = b ∙ ap length printed-is in

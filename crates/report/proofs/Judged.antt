@@ -2,7 +2,7 @@
 -- Areas of 5,000 and 4,000 words hold every profile within the limits; no words hold none.
 use mathlib.Core.Path.{◌≡◌, refl, sym, ap, ◌∙◌}
 use mathlib.Core.Bool.{Bool, true, false, cond, not, ◌||◌}
-use mathlib.Core.List.{List, [], ◌∷◌, ◌++◌}
+use mathlib.Core.List.{List, [], ◌∷◌}
 use mathlib.Core.Option.{Option, none, some}
 use Prim.Native.Nat.{ℕ, suc, ◌+◌, ◌≤◌}
 use native.Mathlib.Omega.{arith}
@@ -17,7 +17,7 @@ use Rattle.texts.specs.Text.{Listing, listing_of}
 use Rattle.texts.specs.Loading.{Reading, refused, loaded, decided, judged, reading, lines_out, listing_number, after_left, tail_left}
 use Rattle.texts.specs.Answers.{Answer, refused_with, sizes, answer_to}
 use Rattle.texts.proofs.Loads.{loaded-fits}
-use Rattle.report.specs.Report.{lent_areas, judged_with, walk_reading, number_to, reported, report_of, told}
+use Rattle.report.specs.Report.{lent_areas, judged_with, walk_reading, number_to, reported, report_of, telling}
 use Rattle.report.specs.Claims.{UnchangedClaim}
 
 -- ---- the areas
@@ -125,14 +125,9 @@ said-loaded (refused k) n m start e = absurd (let z : ◌≡◌ {A = ℕ} 0 1 = 
 said-loaded (loaded p) n m start e = record { listing = p; is = refl; same_n = ap n_of e; same_m = ap m_of e; same_start = ap start_of e }
 
 -- ---- the number of a text where an area is short
--- The number that the reader answers for no words; with nothing put in front of them, the areas are as they were.
-pub short-told : (text after tail : List ℕ) (k : ℕ) (left-after left-tail : List ℕ) → refused_with k ≡ answer_to (reading text [] []) → left-after ≡ after_left (reading text [] []) [] → left-tail ≡ tail_left (reading text [] []) []
-    → ((areas : List Lent) → short areas ≡ true → k ≡ number_to (walk_reading areas text)) × ((left-after ++ after ≡ after) × (left-tail ++ tail ≡ tail))
-short-told text after tail k left-after left-tail e a t =
-    let r = said-refused (reading text [] []) k e in
-    let same_after = ap (λ (l : List ℕ). l ++ after) (a ∙ ap (λ (x : Reading). after_left x []) r) in
-    let same-tail = ap (λ (l : List ℕ). l ++ tail) (t ∙ ap (λ (x : Reading). tail_left x []) r) in
-    (λ areas h. ap number_to (sym r ∙ reading-short text areas h), (same_after, same-tail))
+-- The number that the reader answers for no words.
+pub short-told : (text : List ℕ) (k : ℕ) → refused_with k ≡ answer_to (reading text [] []) → (areas : List Lent) → short areas ≡ true → k ≡ number_to (walk_reading areas text)
+short-told text k e areas h = ap number_to (sym (said-refused (reading text [] []) k e) ∙ reading-short text areas h)
 
 -- It never answers sizes.
 pub never-told : {A : Type 0} (text : List ℕ) (n m start : ℕ) → sizes n m start ≡ answer_to (reading text [] []) → A
@@ -146,7 +141,7 @@ module _ (text after tail marks events output : List ℕ) {is-long : Bool} (e : 
 
   -- The answer is that of a refusal, with the links as they were.
   abbrev Unchanged : ℕ → (after' tail' : List ℕ) → Type 0
-  Unchanged k after' tail' = told (record { number = k; bytes = 0 }) after' tail' marks events output ≡ report_of text after tail marks events output
+  Unchanged k after' tail' = telling k 0 after' tail' marks events output ≡ report_of text after tail marks events output
 
   refusal : (k : ℕ) (after' tail' : List ℕ) → walk_reading areas text ≡ refused k → after' ≡ after → tail' ≡ tail → Unchanged k after' tail'
   unfolding report_of
@@ -174,6 +169,6 @@ unfolding report_of
 unchanged text after tail marks events output k e = go (walk_reading (lent_areas after tail marks events output) text) e
   where
     go : (x : Reading) → (reported x after tail marks events output).number ≡ suc k
-        → reported x after tail marks events output ≡ told (record { number = suc k; bytes = 0 }) after tail marks events output
-    go (refused j) q = λ i. told (record { number = q i; bytes = 0 }) after tail marks events output
+        → reported x after tail marks events output ≡ telling (suc k) 0 after tail marks events output
+    go (refused j) q = λ i. telling (q i) 0 after tail marks events output
     go (loaded p) q = absurd (omega (arith, q))

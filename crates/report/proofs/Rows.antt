@@ -4,8 +4,9 @@ use mathlib.Core.List.{List, [], ◌∷◌, ◌++◌, append_assoc, append-nil}
 use Prim.Native.Nat.{ℕ, zero, suc, ◌+◌, ◌*◌, ◌≤◌, ◌<◌}
 use native.Mathlib.Omega.{arith}
 use native.Mathlib.Nat.{add-zero}
+use Rattle.std.proofs.lemmas.List.{nil_from_length}
 use lib.ListN.{length, get_or, set, take, drop, replicate, length-append, length-replicate}
-use lib.Seq.{length-take-le, take-suc, take_all, take-append_seam, append_snoc}
+use lib.Seq.{take-append_seam, append_snoc}
 use borrow.Author.Tests.{le-leb, lt-ltb, le-ltb}
 use Rattle.lists.specs.Words.{overlay, pasted}
 use Rattle.lists.proofs.Words.{pasted-front, pasted-none, pasted-next, pasted-pasted, length-pasted}
@@ -43,32 +44,13 @@ rows_append (suc k) (a ∷ b ∷ c ∷ ws) vs e =
     ap (λ (l : List ℕ). row (a ∷ b ∷ c ∷ []) ++ l) (rows_append k ws vs (omega arith))
     ∙ sym (append_assoc (row (a ∷ b ∷ c ∷ [])) (rows ws) (rows vs))
 
--- Three words more.
-take-three : (ws : List ℕ) (j : ℕ) → j + 3 ≤ length ws → take (j + 3) ws ≡ take j ws ++ (get_or ws j 0 ∷ get_or ws (j + 1) 0 ∷ get_or ws (j + 2) 0 ∷ [])
-take-three ws j h =
-    let e : j + 3 ≡ suc (j + 2) = omega arith in
-    let f : j + 2 ≡ suc (j + 1) = omega arith in
-    let g : j + 1 ≡ suc j = omega arith in
-    let a = get_or ws j 0 in
-    let b = get_or ws (j + 1) 0 in
-    let c = get_or ws (j + 2) 0 in
-    ap (λ (k : ℕ). take k ws) e
-    ∙ take-suc ws (j + 2) 0 (omega arith)
-    ∙ ap (λ (l : List ℕ). l ++ (c ∷ [])) (ap (λ (k : ℕ). take k ws) f ∙ take-suc ws (j + 1) 0 (omega arith) ∙ ap (λ (l : List ℕ). l ++ (b ∷ [])) (ap (λ (k : ℕ). take k ws) g ∙ take-suc ws j 0 (omega arith)))
-    ∙ append_snoc (take j ws ++ (a ∷ [])) b (c ∷ [])
-    ∙ append_snoc (take j ws) a (b ∷ c ∷ [])
-
--- The words of event i, and its line.
-abbrev words_at : List ℕ → ℕ → List ℕ
-words_at ws i = get_or ws (3 * i) 0 ∷ get_or ws (3 * i + 1) 0 ∷ get_or ws (3 * i + 2) 0 ∷ []
-
-rows_next : (ws : List ℕ) (i : ℕ) → 3 * i + 3 ≤ length ws → rows (take (3 * (i + 1)) ws) ≡ rows (take (3 * i) ws) ++ row (words_at ws i)
-rows_next ws i h =
-    let n : 3 * (i + 1) ≡ 3 * i + 3 = omega arith in
-    ap (λ (j : ℕ). rows (take j ws)) n
-    ∙ ap rows (take-three ws (3 * i) h)
-    ∙ rows_append i (take (3 * i) ws) (words_at ws i) (length-take-le (3 * i) ws (omega arith))
-    ∙ ap (λ (l : List ℕ). rows (take (3 * i) ws) ++ l) (append-nil (row (words_at ws i)))
+-- Three words are one line.
+rows_three : (x : List ℕ) → length x ≡ 3 → rows x ≡ row (get_or x 0 0 ∷ get_or x 1 0 ∷ get_or x 2 0 ∷ [])
+rows_three (a ∷ b ∷ c ∷ []) e = append-nil (row (a ∷ b ∷ c ∷ []))
+rows_three (a ∷ b ∷ c ∷ d ∷ x) e = absurd (omega arith)
+rows_three (a ∷ b ∷ []) e = absurd (omega arith)
+rows_three (a ∷ []) e = absurd (omega arith)
+rows_three [] e = absurd (omega arith)
 
 -- ---- bytes behind bytes
 -- These bytes were written from place `at` on, and `next` is the place past them.
@@ -96,24 +78,6 @@ module _ (at : ℕ) (start bytes : List ℕ) (next : ℕ) (area : List ℕ) (W :
       let p = W.0 in
       let q = N.0 in
       (omega (arith, length-append bytes more), N.1 ∙ (λ i. pasted (p i) more (W.1 i)) ∙ pasted-pasted at start (omega arith) bytes more h)
-
--- ---- a copy
--- No byte yet.
-pub copied_none : (at : ℕ) (bytes start : List ℕ) → Wrote at start (take 0 bytes) (at + 0) start
-copied_none at bytes start = (refl, sym (pasted-none at start))
-
-module _ (at : ℕ) (bytes start area : List ℕ) (i : ℕ) (W : Wrote at start (take i bytes) (at + i) area) where
-  -- The next byte of a copy.
-  pub copied_next : i < length bytes → at + length bytes ≤ length start → Wrote at start (take (i + 1) bytes) (at + (i + 1)) (set area (at + i) (get_or bytes i 0))
-  copied_next h q =
-      let e : suc i ≡ i + 1 = omega arith in
-      let t : take i bytes ++ (get_or bytes i 0 ∷ []) ≡ take (i + 1) bytes = sym (take-suc bytes i 0 h) ∙ ap (λ (k : ℕ). take k bytes) e in
-      let N = wrote-byte at start (take i bytes) (at + i) area W (get_or bytes i 0) (omega arith) in
-      (omega (arith, length-take-le (i + 1) bytes (omega arith)), N.1 ∙ ap (λ (l : List ℕ). pasted at l start) t)
-
-  -- All of them.
-  pub copied_all : i ≡ length bytes → Wrote at start bytes (at + i) area
-  copied_all e = (ap (λ (k : ℕ). at + k) e, W.1 ∙ ap (λ (l : List ℕ). pasted at l start) (take_all i bytes (omega arith)))
 
 -- ---- a number and the byte behind it
 abbrev field : ℕ → ℕ → List ℕ
@@ -151,25 +115,53 @@ row_wrote a b c at p q r start s t u h A B C =
     let whole = wrote-more at start (field a comma) p s A.1 (omega arith) (field b comma ++ field c line_feed) r u rest in
     (omega arith, wrote-equal at start _ (row (a ∷ b ∷ c ∷ [])) r u (fields-row a b c) whole)
 
--- The lines of the first i events were written.
-abbrev pub Lines : (ws : List ℕ) (at : ℕ) (start : List ℕ) (i next : ℕ) (area : List ℕ) → Type 0
-Lines ws at start i next area = Near (18 * i) at start (rows (take (3 * i) ws)) next area
+-- The lines of some events were written; those of the words left are still to be.
+pub record Lines (ws left : List ℕ) (at : ℕ) (start : List ℕ) (next : ℕ) (area : List ℕ) : Type 0 where
+  pub done : List ℕ
+  pub many : ℕ
+  pub parts : ws ≡ done ++ left
+  pub whole : length done ≡ 3 * many
+  pub lines : Near (18 * many) at start (rows done) next area
 
-pub lines_none : (ws : List ℕ) (at : ℕ) (start : List ℕ) → Lines ws at start 0 at start
-lines_none ws at start = (omega arith, (sym (add-zero at), sym (pasted-none at start)))
+pub lines_none : (ws : List ℕ) (at : ℕ) (start : List ℕ) → Lines ws ws at start at start
+lines_none ws at start = record { done = []; many = 0; parts = refl; whole = refl; lines = (omega arith, (sym (add-zero at), sym (pasted-none at start))) }
 
--- A line more.
-pub lines_next : (ws : List ℕ) (at : ℕ) (start : List ℕ) (i p q : ℕ) (s t : List ℕ) → 3 * i + 3 ≤ length ws → p ≤ length start
-    → Lines ws at start i p s → Near 18 p s (row (words_at ws i)) q t → Lines ws at start (i + 1) q t
-lines_next ws at start i p q s t h k W N =
-    let m = W.0 in
-    let n = N.0 in
-    let A = wrote-more at start (rows (take (3 * i) ws)) p s W.1 (omega (arith, W.1.0)) (row (words_at ws i)) q t N.1 in
-    (omega arith, wrote-equal at start _ (rows (take (3 * (i + 1)) ws)) q t (sym (rows_next ws i h)) A)
+module _ {ws left : List ℕ} {at : ℕ} {start : List ℕ} {p : ℕ} {s : List ℕ} (W : Lines ws left at start p s) (made : ℕ) (whole : length ws ≡ 3 * made) (fits : at + 18 * made ≤ length start) where
+  -- As many events as words.
+  lines-many : 3 * W.many + length left ≡ 3 * made
+  lines-many = omega (arith, whole, W.whole, ap length W.parts, length-append W.done left)
 
--- All of them.
-pub lines-all : (ws : List ℕ) (at : ℕ) (start : List ℕ) (i k p : ℕ) (s : List ℕ) → i ≡ k → Lines ws at start i p s → Lines ws at start k p s
-lines-all ws at start i k p s e W = subst (λ (j : ℕ). Lines ws at start j p s) e W
+  -- There is room for a line more.
+  pub lines-room : 3 ≤ length left → p + 18 ≤ length s
+  lines-room h =
+      let m = lines-many in
+      let n = W.lines.0 in
+      omega (arith, wrote-same at start (rows W.done) p s W.lines.1 (omega (arith, W.lines.1.0)))
+
+  -- A line more.
+  pub lines-next : (x others : List ℕ) (q : ℕ) (t : List ℕ) → left ≡ x ++ others → length x ≡ 3 → Near 18 p s (row (get_or x 0 0 ∷ get_or x 1 0 ∷ get_or x 2 0 ∷ [])) q t → Lines ws others at start q t
+  lines-next x others q t e three N =
+      let m = lines-many in
+      let n = W.lines.0 in
+      let some : length left ≡ 3 + length others = omega (arith, ap length e, length-append x others) in
+      let put = wrote-more at start (rows W.done) p s W.lines.1 (omega (arith, W.lines.1.0)) (row (get_or x 0 0 ∷ get_or x 1 0 ∷ get_or x 2 0 ∷ [])) q t N.1 in
+      let lines : rows W.done ++ row (get_or x 0 0 ∷ get_or x 1 0 ∷ get_or x 2 0 ∷ []) ≡ rows (W.done ++ x) = ap (λ (l : List ℕ). rows W.done ++ l) (sym (rows_three x three)) ∙ sym (rows_append W.many W.done x W.whole) in
+      record {
+        done = W.done ++ x;
+        many = W.many + 1;
+        parts = W.parts ∙ ap (λ (l : List ℕ). W.done ++ l) e ∙ sym (append_assoc W.done x others);
+        whole = omega (arith, length-append W.done x, W.whole);
+        lines = (omega (arith, N.0), wrote-equal at start _ (rows (W.done ++ x)) q t lines put);
+      }
+
+  -- All of them.
+  pub lines-all : length left < 3 → Near (18 * made) at start (rows ws) p s
+  lines-all h =
+      let m = lines-many in
+      let n = W.lines.0 in
+      let none : left ≡ [] = nil_from_length left (omega arith) in
+      let all : W.done ≡ ws = sym (W.parts ∙ ap (λ (l : List ℕ). W.done ++ l) none ∙ append-nil W.done) in
+      (omega arith, wrote-equal at start (rows W.done) (rows ws) p s (ap rows all) W.lines.1)
 
 -- Four parts in front of an area.
 parts-wrote : (a b c d start s t u v : List ℕ) (n m p q : ℕ) → length (a ++ (b ++ (c ++ d))) ≤ length start → Wrote 0 start a n s → Wrote n s b m t → Wrote m t c p u → Wrote p u d q v → (q ≡ length (a ++ (b ++ (c ++ d)))) × (v ≡ overlay (a ++ (b ++ (c ++ d))) start)
@@ -189,7 +181,7 @@ abbrev last_row : Totals → List ℕ
 last_row t = row (t.elements ∷ t.moves ∷ t.circular ∷ [])
 
 pub walk-wrote : (ws : List ℕ) (t : Totals) (start r s u v : List ℕ) (n m p q : ℕ) → 18 * t.events + 66 ≤ length start
-    → Wrote 0 start event_names n r → Lines ws n r t.events m s → Wrote m s total_names p u → Near 18 p u (last_row t) q v
+    → Wrote 0 start event_names n r → Near (18 * t.events) n r (rows (take (3 * t.events) ws)) m s → Wrote m s total_names p u → Near 18 p u (last_row t) q v
     → (q ≡ length (printed_from ws t)) × (v ≡ overlay (printed_from ws t) start)
 walk-wrote ws t start r s u v n m p q h A B C D =
     let lines = rows (take (3 * t.events) ws) in

@@ -10,12 +10,12 @@ use Rattle.graphs.specs.Refusals.{text_out}
 use Rattle.numbers.specs.Padding.{has_padding, unpad}
 use Rattle.texts.specs.Text.{Listing, listing_of, row}
 use Rattle.report.specs.Printed.{event_names, total_names, event_rows, moves_of, refusal_printed}
-use Rattle.report.specs.Report.{Told, graph_from, walk_from, report_of, told, line_number}
+use Rattle.report.specs.Report.{Told, graph_from, walk_from, report_of, telling, line_number}
 
 -- A text that is refused prints nothing, and every area is as it was.
 abbrev pub UnchangedClaim : Type 0
 UnchangedClaim = (text after tail marks events output : List ℕ) (k : ℕ) → (report_of text after tail marks events output).number ≡ suc k
-    → report_of text after tail marks events output ≡ told (record { number = suc k; bytes = 0 }) after tail marks events output
+    → report_of text after tail marks events output ≡ telling (suc k) 0 after tail marks events output
 
 -- Fourteen bytes have room for the line of any number that a call returns.
 abbrev pub LineClaim : Type 0

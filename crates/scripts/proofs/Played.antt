@@ -1,15 +1,7 @@
 -- A line under a script: each call on the part of the event area that it is lent, and the script's calls one after the other.
 -- What a call leaves in its part stands behind the events so far; put back, the area begins with the events of all.
-use mathlib.Core.Path.{◌≡◌, refl, sym, ap, ◌∙◌, subst}
-use mathlib.Core.Bool.{Bool, true, false, cond}
-use mathlib.Core.List.{List, [], ◌∷◌, ◌++◌, append_assoc}
-use Prim.Native.Nat.{ℕ, zero, suc, ◌+◌, ◌-◌, ◌*◌, ◌≤◌, ◌<◌, min}
-use native.Mathlib.Omega.{arith}
-use Rattle.std.specs.Prelude.{Option, Some, None, Result, Ok, Err}
-use lib.Dec.{eqb, leb}
-use lib.ListN.{length, get_or, take, drop, length-append, length-drop, take-append-drop}
-use lib.Seq.{take_all, take-append_seam, drop-append-le, drop-drop}
-use borrow.Author.Tests.{leb-true, leb-false, ne_eqb}
+use Rattle.std.proofs.Common.{◌≡◌, refl, sym, ap, ◌∙◌, subst, Bool, true, false, cond, List, [], ◌∷◌, ◌++◌, append_assoc, ℕ, zero, suc, ◌+◌, ◌-◌, ◌*◌, ◌≤◌, ◌<◌, min, arith, Option, Some, None, Result, Ok, Err, eqb, leb, length, get_or, take, drop, length-append, length-drop, take-append-drop, take_all, drop-drop, leb-true, leb-false, ne_eqb}
+use lib.Seq.{take-append_seam, drop-append-le}
 use borrow.Rule.Slice.PartMut.{mid_of, put_mid}
 use Rattle.lists.specs.Words.{overlay}
 use Rattle.lists.proofs.Words.{overlay-past}

@@ -4,7 +4,7 @@ ghost use Rattle.scripts.specs.Script.{called_by, called};
 
 // With the words that name them.
 #[derive(Clone, Copy, Debug, PartialEq, Eq)]
-pub enum Order {
+pub(crate) enum Order {
     Run = 1,
     Step = 2,
     RollBack = 3,

@@ -1,5 +1,5 @@
 // One search under a script of calls, each of which goes on from what the one before it left.
-ghost use Rattle.std.specs.Prelude.{◌≡◌, List, ℕ, ◌+◌, ◌≤◌};
+ghost use Rattle.std.specs.Prelude.{◌≡◌, List, ℕ, ◌+◌, ◌*◌, ◌≤◌, length};
 ghost use Rattle.images.specs.Checking.{image};
 ghost use Rattle.folding.specs.Calls.{unopened};
 ghost use Rattle.folding.specs.Lines.{Line, calls, folded};
@@ -47,7 +47,8 @@ fn perform(
     marks: &mut [u16],
     events: &mut [u16],
 ) -> Replayed
-    requires { Playing p after.old tail.old marks.old events.old }
+    requires playing { Playing p after.old tail.old marks.old events.old }
+    requires written { 3 * p.events ≤ length events.old }
     ensures { (area : List ℕ) (l : Line) → told_line p after.old tail.old marks.old events.old ≡ seen_line area l → told_line result after.new tail.new marks.new events.new ≡ seen_line area (calls folded l (called order budget (lent_to area l room))) }
 {
     let s = p.state;
@@ -76,7 +77,8 @@ fn perform(
 
 // Opens a search with the elements already on the blank, and performs a script of calls: three words for each, which call, its budget, and
 // how many event words it is lent, which stand behind the events so far. The opening is refused by 1, 2, 3, 4, 5, 6, 7, 17, 18, and then no
-// call is made; a call of the script that is refused changes nothing, and the next one follows.
+// call is made; a call of the script that is refused changes nothing, and the next one follows. The image's links are written: its areas are
+// lent one by one, as `run` and `step` take them.
 pub fn replay(
     n: u16,
     m: u16,

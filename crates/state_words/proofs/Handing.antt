@@ -1,19 +1,17 @@
 -- What a call on a state in words hands back, and what accepting one does.
 -- Fewer than nine words hold no state; else all is what is seen of the reply.
 use mathlib.Core.Path.{◌≡◌, refl, sym, ap, ◌∙◌}
-use mathlib.Core.Logic.{◌≢◌}
-use mathlib.Core.List.{List, []}
-use Prim.Native.Nat.{ℕ, zero, suc, ◌≤◌, ◌<◌}
+use mathlib.Core.List.{List}
+use Prim.Native.Nat.{ℕ, ◌≤◌, ◌<◌}
 use lib.ListN.{length}
 use borrow.Author.Tests.{le-leb, lt-leb}
 use Rattle.lists.specs.Words.{overlay}
 use Rattle.folding.specs.Calls as calls
-use Rattle.folding.specs.Calls.{Call, ran, taken, refused, refusing, area_of, serve, accept_number}
+use Rattle.folding.specs.Calls.{Call, ran, taken, refused, refusing, area_of, serve}
 use Rattle.states.specs.declared.values.State.{State}
 use Rattle.states.specs.declared.values.Reason.{Reason}
 use Rattle.states.specs.Answers.{answer_of, config_of, Seen, seen_of}
 use Rattle.std.specs.Prelude.{Option, Some, None}
-use Rattle.panel.specs.declared.Panel.{Panel}
 use Rattle.panel.specs.Panel.{Counted}
 use Rattle.panel.specs.Panel.{counted_by, accepted_of}
 use Rattle.state_words.specs.Handed.{state_in, config_words, reason_number, reason_in, served_in, Handed, handing, handed_by, handed, accepted_in}
@@ -64,12 +62,3 @@ module _ (figure : ℕ) (state : List ℕ) where
   -- Nine words or more: it is what is counted of the state read out of them.
   pub counted-in : {s : State} {r : Counted} → 9 ≤ length state → s ≡ state_in state → r ≡ accepted_of (record { figure = figure }) s → r ≡ accepted_in figure state
   counted-in h e f = f ∙ ap (accepted_of (record { figure = figure })) e ∙ rw (le-leb 9 (length state) h)
-
--- A refused state leaves the figure.
-pub figure-kept : (p : Panel) (s : State) {r : Counted} → r ≡ accepted_of p s → r.answer.number ≢ 0 → p.figure ≡ r.panel.figure
-unfolding accepted_of
-figure-kept p s e ne = go (accept_number (config_of s [] [] []) p.figure) (λ z. ne (ap (λ (r : Counted). r.answer.number) e ∙ z)) ∙ ap (λ (r : Counted). r.panel.figure) (sym e)
-  where
-    go : (k : ℕ) → (counted_by k p s).answer.number ≢ 0 → p.figure ≡ (counted_by k p s).panel.figure
-    go zero ne = absurd (ne refl)
-    go (suc k) ne = refl

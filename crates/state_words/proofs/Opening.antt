@@ -10,9 +10,16 @@ use lib.ListN.{length}
 use Rattle.graphs.specs.Image.{Image}
 use Rattle.graphs.specs.Refusals.{Lent, lent, short, search_number, unless_refused}
 use Rattle.folding.specs.Calls.{unless, unopened, open_number, opened_at, open_reply, opening}
-use Rattle.states.specs.Answers.{Seen, seen_of}
+use Rattle.std.specs.Prelude.{Option, Some, None}
+use Rattle.states.specs.declared.values.Reason.{Reason}
+use Rattle.states.specs.Answers.{answer_of, Seen, seen_of}
 use Rattle.state_words.specs.Handed.{number_in, open_number_in}
 use Rattle.tally_words.proofs.Numbers.{says-short, search-long, search-short}
+
+-- The number of a call that is taken.
+pub taken-number : (why : Option Reason) → 0 ≡ number_in (answer_of why)
+taken-number (Some why) = refl
+taken-number None = refl
 
 -- What is seen of an opening with the number k.
 pub record Opened (g : Image) (before : List ℕ) (start : ℕ) (marks events : List ℕ) (k : ℕ) (s : Seen) : Type 0 where

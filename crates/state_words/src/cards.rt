@@ -7,6 +7,7 @@ ghost use Rattle.state_words.specs.Handed.{state_words, accepted_in};
 
 use crate::words::{read_state, write_state};
 use panel::{Panel, count_card, shifted};
+use refusals::Refusal;
 
 // `panel::accept`, of the state in nine lent words.
 pub fn accept_in_words(state: &mut [u16], figure: &mut u32) -> u16
@@ -15,7 +16,7 @@ pub fn accept_in_words(state: &mut [u16], figure: &mut u32) -> u16
     ensures state { state.new ≡ unless_refused result (overlay (state_words (accepted_in figure.old state.old).answer.state) state.old) state.old }
 {
     if state.len() < 9 {
-        return 3;
+        return Refusal::Area as u16;
     }
     let s = read_state(state);
     let p = Panel { figure: *figure };

@@ -37,10 +37,13 @@ pub fn open_in_words(
         return number(check_search(&g, before, Vertex(start), false));
     }
     let r = open(&g, before, Vertex(start), marks, events);
-    if let Ok(reply) = r {
-        write_state(reply.state, state);
+    match r {
+        Ok(reply) => {
+            write_state(reply.state, state);
+            0
+        }
+        Err(refusal) => refusal.number(),
     }
-    number(r)
 }
 
 // Hands a reply back: of a call that is taken, the steps made, the events written, the reason and the state; of a refused one its number.
@@ -80,7 +83,7 @@ pub fn step_in_words(
     ensures { handing result steps.new made.new reason.new state.new after.new tail.new marks.new events.new ≡ handed (served_in state.old after.old tail.old marks.old (single events.old)) steps.old made.old reason.old state.old }
 {
     if state.len() < 9 {
-        return 3;
+        return Refusal::Area as u16;
     }
     let s = read_state(state);
     let r = step(s, after, tail, marks, events);
@@ -102,7 +105,7 @@ pub fn run_in_words(
     ensures { handing result steps.new made.new reason.new state.new after.new tail.new marks.new events.new ≡ handed (served_in state.old after.old tail.old marks.old (run_for budget events.old)) steps.old made.old reason.old state.old }
 {
     if state.len() < 9 {
-        return 3;
+        return Refusal::Area as u16;
     }
     let s = read_state(state);
     let r = run(s, budget, after, tail, marks, events);
@@ -115,7 +118,7 @@ pub fn roll_back_in_words(state: &mut [u16]) -> u16
     ensures state { (after tail marks : List ℕ) → state.new ≡ (handed (served_in state.old after tail marks roll_back) 0 0 0 state.old).state }
 {
     if state.len() < 9 {
-        return 3;
+        return Refusal::Area as u16;
     }
     let s = read_state(state);
     let r = roll_back(s);

@@ -1,10 +1,5 @@
 -- The number of a call with a state, from that of its first five conditions; and what the number says of the reply.
-use mathlib.Core.Path.{◌≡◌, refl, sym, ap, ◌∙◌}
-use mathlib.Core.Logic.{◌≢◌}
-use mathlib.Core.Bool.{Bool, true, false, not}
-use mathlib.Core.List.{List, [], ◌∷◌, ◌++◌}
-use Prim.Native.Nat.{ℕ, zero, suc}
-use native.Mathlib.Omega.{arith}
+use Rattle.std.proofs.Common.{◌≡◌, refl, sym, ap, ◌∙◌, ◌≢◌, Bool, true, false, not, List, [], ◌∷◌, ◌++◌, ℕ, zero, suc, arith}
 use Rattle.graphs.specs.Refusals.{Refusal, refuse, first_of, Lent, vertex_out, size_refusals}
 use Rattle.graphs.proofs.Refusals.{first-front, first_rest}
 use Rattle.folding.specs.Machine.{Config}

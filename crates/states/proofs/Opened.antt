@@ -1,13 +1,6 @@
 -- An opening, by its number.
 -- What the start's labelling leaves is one mark and one event, where there is room for them.
-use mathlib.Core.Path.{◌≡◌, sym, ap, ◌∙◌}
-use mathlib.Core.Logic.{◌≢◌}
-use mathlib.Core.Bool.{Bool, not, ◌&&◌}
-use mathlib.Core.List.{List, [], ◌∷◌}
-use Prim.Native.Nat.{ℕ, ◌+◌, ◌≤◌}
-use native.Mathlib.Omega.{arith}
-use lib.Dec.{leb}
-use lib.ListN.{length}
+use Rattle.std.proofs.Common.{◌≡◌, sym, ap, ◌∙◌, ◌≢◌, Bool, not, ◌&&◌, List, [], ◌∷◌, ℕ, ◌+◌, ◌≤◌, arith, leb, length}
 use Rattle.lists.specs.Members.{Mem}
 use Rattle.lists.specs.Words.{put, overlay}
 use Rattle.lists.proofs.Words.{put-put}

@@ -15,10 +15,10 @@ stored-tally : (k : ℕ) (h : History) (counts : List ℕ) → unless_refused k 
 stored-tally zero h counts = refl
 stored-tally (suc k) h counts = refl
 
-pub handed-over : {j k nodes r : ℕ} {before : List ℕ} {h : History} {marks events counts counts' marks' events' : List ℕ} (w : Result (List ℕ) refusals.Refusal)
+pub handed-over : {j k nodes r : ℕ} {before : List ℕ} {h : History} {marks events counts' marks' events' : List ℕ} (counts : List ℕ) (w : Result (List ℕ) refusals.Refusal)
     → Promised k nodes before h marks events (walked_of w) marks' events' → k ≡ j → r ≡ number_in w → counts' ≡ unless_refused r (overlay (walked_of w).tally counts) counts
     → Tallied j h nodes before marks events counts r counts' marks' events'
-handed-over {r = r} {h = h} {counts = counts} w P long number stored =
+handed-over {r = r} {h = h} counts w P long number stored =
     let is = walked-number w in
     let q = answered P (is ∙ sym number) in
     (number ∙ sym is ∙ P.number_is ∙ long, stored ∙ ap (λ (t : List ℕ). unless_refused r (overlay t counts) counts) q.0 ∙ stored-tally r h counts, q.1.0, q.1.1)

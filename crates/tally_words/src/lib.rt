@@ -112,7 +112,17 @@ pub fn dfs_array_in_words(
         };
         return number(check_array_walk(&a, before, Vertex(start), marks, increments, events));
     }
-    let w = dfs_array(n, m, firsts, tails, before, Vertex(start), marks, increments, events);
+    let w = dfs_array(
+        n,
+        m,
+        firsts,
+        tails,
+        before,
+        Vertex(start),
+        marks,
+        increments,
+        events,
+    );
     hand_over(w, counts)
 }
 

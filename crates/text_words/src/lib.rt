@@ -63,8 +63,8 @@ pub fn refusal_line_in_words(number: u16, output: &mut [u8], printed: &mut usize
 {
     match refusal_line(number, output) {
         Err(refusal) => refusal.number(),
-        Ok(bytes) => {
-            *printed = bytes;
+        Ok(length) => {
+            *printed = length;
             0
         }
     }

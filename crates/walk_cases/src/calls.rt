@@ -26,16 +26,30 @@ pub(crate) fn call(case: &Case, areas: &mut Areas) -> Result<[u32; 7], u16> {
     } = areas;
     numbered(match case.walker {
         Walker::DfsRecursive => walkers::dfs_recursive(
-            &image(n, m, links, tails), before, start, marks, events,
+            &image(n, m, links, tails),
+            before,
+            start,
+            marks,
+            events,
         ),
         Walker::DfsParent => walkers::dfs_parent(
-            &image(n, m, links, tails), before, start, marks, own, events,
+            &image(n, m, links, tails),
+            before,
+            start,
+            marks,
+            own,
+            events,
         ),
         Walker::DfsArray => walkers::dfs_array(
             n, m, links, tails, before, start, marks, own, events,
         ),
         Walker::BfsQueue => walkers::bfs_queue(
-            &image(n, m, links, tails), before, start, marks, own, events,
+            &image(n, m, links, tails),
+            before,
+            start,
+            marks,
+            own,
+            events,
         ),
         Walker::BfsFolded => walkers::bfs_folded(n, m, links, tails, before, start, marks, events),
     })

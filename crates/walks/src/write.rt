@@ -33,7 +33,8 @@ fn has_room(kind: u16, tally: [u32; 7], a: usize) -> bool
     count(tally) < most_events(a)
 }
 
-// Writes one event behind those tallied, and counts it. No event has another number than 1 to 7.
+// Writes one event behind those tallied, and counts it. The kind is a number, since what is promised holds of any: of one that is no kind,
+// nothing is written.
 pub fn emit(events: &mut [u16], kind: u16, r: Edge, u: Vertex, tally: [u32; 7]) -> [u32; 7]
     ensures tally { result ≡ tally_after kind tally (length events.old) }
     ensures events { events.new ≡ events_after kind r.0 u.0 tally events.old }

@@ -1,29 +1,28 @@
-use mathlib.Core.List.{[]}
-use mathlib.Core.Path.{refl}
+-- A card is refused by the first condition that is true of it.
+use Rattle.std.proofs.Common.{[], refl}
+use Rattle.std.proofs.lemmas.Result.{err_from_is_err_and}
+use Rattle.refusals.proofs.Numbers.{refused-not-taken}
 use Rattle.states.specs.Answers.{config_of}
 use Rattle.panel.proofs.Judged.{refused-first, refused-rolled-back, refused-accepted, refused-unfinished, refused_full, refused-never}
-use Rattle.panel.proofs.accept_number.Goals as goal
+use Rattle.panel.proofs.check_card.Goals as goal
 
--- src/lib.rt:50:9
-pub returns-then-k-ne0 : goal.returns-then-k-ne0
-returns-then-k-ne0 c = let a = c.args in refused-first (config_of a.s [] [] []) a.figure (c.state_number-k.ensures [] [] [] [] refl) c.if-k-ne0.true
+pub returns-in_err-check_state : goal.returns-in_err-check_state
+returns-in_err-check_state c =
+    let a = c.args in
+    let p = err_from_is_err_and c.from_residual.result c.from_residual.ensures.1 in
+    rw (p.1, p.2) (refused-first (config_of a.s [] [] []) a.figure (c.in_err-check_state.ensures [] [] [] [] refl) (refused-not-taken c.in_err-check_state.field-0.0))
 
--- src/lib.rt:54:9
-pub returns-then-p-eq5 : goal.returns-then-p-eq5
-returns-then-p-eq5 c = let a = c.args in refused-rolled-back (config_of a.s [] [] []) a.figure (c.state_number-k.ensures [] [] [] [] refl) c.if-k-ne0.false c.if-p-eq5.true
+pub returns-then-p : goal.returns-then-p
+returns-then-p c = let a = c.args in refused-rolled-back (config_of a.s [] [] []) a.figure (c.in_ok-check_state.ensures [] [] [] [] refl) refl c.if-p.true
 
--- src/lib.rt:57:9
-pub returns-then-p-eq6 : goal.returns-then-p-eq6
-returns-then-p-eq6 c = let a = c.args in refused-accepted (config_of a.s [] [] []) a.figure (c.state_number-k.ensures [] [] [] [] refl) c.if-k-ne0.false c.if-p-eq5.false c.if-p-eq6.true
+pub returns-then-p-2 : goal.returns-then-p-2
+returns-then-p-2 c = let a = c.args in refused-accepted (config_of a.s [] [] []) a.figure (c.in_ok-check_state.ensures [] [] [] [] refl) refl c.if-p.false c.if-p-2.true
 
--- src/lib.rt:60:9
-pub returns-then-p-ne3 : goal.returns-then-p-ne3
-returns-then-p-ne3 c = let a = c.args in refused-unfinished (config_of a.s [] [] []) a.figure (c.state_number-k.ensures [] [] [] [] refl) c.if-k-ne0.false c.if-p-eq5.false c.if-p-eq6.false c.if-p-ne3.true
+pub returns-then-p-3 : goal.returns-then-p-3
+returns-then-p-3 c = let a = c.args in refused-unfinished (config_of a.s [] [] []) a.figure (c.in_ok-check_state.ensures [] [] [] [] refl) refl c.if-p.false c.if-p-2.false c.if-p-3.true
 
--- src/lib.rt:63:9
 pub returns-then-figure-ge999999 : goal.returns-then-figure-ge999999
-returns-then-figure-ge999999 c = let a = c.args in refused_full (config_of a.s [] [] []) a.figure (c.state_number-k.ensures [] [] [] [] refl) c.if-k-ne0.false c.if-p-ne3.false c.if-figure-ge999999.true
+returns-then-figure-ge999999 c = let a = c.args in refused_full (config_of a.s [] [] []) a.figure (c.in_ok-check_state.ensures [] [] [] [] refl) refl c.if-p-3.false c.if-figure-ge999999.true
 
--- src/lib.rt:45:1
 pub returns : goal.returns
-returns c = let a = c.args in refused-never (config_of a.s [] [] []) a.figure (c.state_number-k.ensures [] [] [] [] refl) c.if-k-ne0.false c.if-p-ne3.false c.if-figure-ge999999.false
+returns c = let a = c.args in refused-never (config_of a.s [] [] []) a.figure (c.in_ok-check_state.ensures [] [] [] [] refl) refl c.if-p-3.false c.if-figure-ge999999.false

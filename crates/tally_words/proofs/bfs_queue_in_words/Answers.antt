@@ -1,11 +1,9 @@
 -- Fewer than seven words for the tally are one short area more; seven words or more add nothing to the number.
 -- All else is as the walker leaves it, and of a walk taken its tally is stored.
-use Rattle.std.proofs.Common.{refl, sym, ap, ◌∙◌, List, [], ◌∷◌, ℕ}
+use Rattle.std.proofs.Common.{◌∙◌, [], ◌∷◌}
 use Rattle.graphs.specs.Refusals.{lent}
 use Rattle.graphs.proofs.Refusals.{refused}
 use Rattle.images.specs.Checking.{image}
-use Rattle.refusals.specs.Numbers.{number_in}
-use Rattle.walks.proofs.Begins.{walked-number}
 use Rattle.tally_words.proofs.Numbers.{walk-long, walk-short}
 use Rattle.tally_words.proofs.Handing.{handed-over}
 use Rattle.tally_words.proofs.bfs_queue_in_words.Goals as goal
@@ -22,4 +20,4 @@ returns c =
     let e = c.bfs_queue-w.ensures in
     let o = c.hand_over.ensures in
     let long = walk-long (image a.n a.m a.after.now a.tail.now) a.before.now a.start a.marks.now a.events.now (lent a.n a.queue.now ∷ []) a.counts.now c.if-counts-lt7.false in
-    record { walk = handed-over c.bfs_queue-w.result e.walk long o.number o.words; queue = rw o.number e.queue }
+    record { walk = handed-over a.counts.now c.bfs_queue-w.result e.walk long o.number o.words; queue = rw o.number e.queue }

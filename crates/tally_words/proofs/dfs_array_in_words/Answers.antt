@@ -19,4 +19,4 @@ returns c =
     let e = c.dfs_array-w.ensures in
     let o = c.hand_over.ensures in
     let long = array_long (array_in a.n a.m a.firsts.now a.tails.now) a.before.now a.start a.marks.now a.increments.now a.events.now a.counts.now c.if-counts-lt7.false in
-    record { walk = handed-over c.dfs_array-w.result e.walk long o.number o.words; tails = e.tails; increments = rw o.number e.increments }
+    record { walk = handed-over a.counts.now c.dfs_array-w.result e.walk long o.number o.words; tails = e.tails; increments = rw o.number e.increments }

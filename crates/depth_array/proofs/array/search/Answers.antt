@@ -1,9 +1,6 @@
 -- The search from its first place to its last, where the scan of the start ends it.
-use Rattle.depth_array.proofs.Increments.{some_at, ended}
+use Rattle.depth_array.proofs.Increments.{ended}
 use Rattle.depth_array.proofs.array.search.Goals as goal
-
-pub finish-q-requires : goal.finish-q-requires
-finish-q-requires c = some_at c.open-p.ensures
 
 pub returns : goal.returns
 returns c =

@@ -13,8 +13,8 @@ returns-then-output-q c =
     let all = refusal-none z.number q.result q.new.output M z.output.now (omega arith) in
     record { number = all.0; bytes = all.1.0; output = all.1.1 }
 
-pub write_bytes-bytes-requires : goal.write_bytes-bytes-requires
-write_bytes-bytes-requires c =
+pub write_bytes-requires : goal.write_bytes-requires
+write_bytes-requires c =
     let z = c.args in
     let p = c.write_bytes-p in
     let q = c.write_field-q in
@@ -27,6 +27,6 @@ returns c =
     let p = c.write_bytes-p in
     let q = c.write_field-q in
     let M = line_made z.number line_feed p.result q.result p.new.output q.new.output (p.ensures.next, p.ensures.words) (q.ensures.near, (q.ensures.next, q.ensures.words)) in
-    let w = c.write_bytes-bytes in
+    let w = c.write_bytes in
     let all = refusal-copied z.number q.result q.new.output M z.output.now (omega arith) w.result w.new.output (w.ensures.next, w.ensures.words) in
     record { number = all.0; bytes = all.1.0; output = all.1.1 }

@@ -1,27 +1,33 @@
 -- `write_rows` writes the lines of the first events.
--- Invariant: those of the first i are written.
-use mathlib.Core.Path.{refl}
-use native.Mathlib.Omega.{arith}
-use Rattle.report.proofs.Rows.{lines_none, lines_next, lines-all}
+-- Invariant: those of the words that the iterator has given are written.
+use Rattle.std.proofs.Common.{refl, ap, ◌∙◌, arith, rules, ◌*◌, length, take, length-append}
+use Rattle.std.specs.Slice.Iter.{chunks_exact_rest}
+use lib.Seq.{length-take-le}
+use Rattle.report.proofs.Rows.{lines_none, lines-room, lines-next, lines-all}
 use Rattle.report.proofs.lines.write_rows.Goals as goal
 
-pub loop-i-init : goal.loop-i-init
-loop-i-init c = let z = c.args in (omega arith, refl, lines_none z.events.now z.at z.output.now)
+pub loop-event-init : goal.loop-event-init
+loop-event-init c = let z = c.args in (search rules, refl, search (rules, lines_none (take (3 * z.made) z.events.now) z.at z.output.now))
 
 pub write_row-p-requires : goal.write_row-p-requires
-write_row-p-requires c = omega (arith, c.loop-i.invariant.2.0)
-
-pub loop-i-preserved : goal.loop-i-preserved
-loop-i-preserved c =
+write_row-p-requires c =
     let z = c.args in
-    let l = c.loop-i in
+    let s = c.in-Some.ensures.steps in
+    let l = c.loop-event.invariant in
+    lines-room l.2 z.made (length-take-le (3 * z.made) z.events.now c.requires.0) c.requires.1 (omega (arith, ap length s.1.0, length-append c.in-Some.event.now (chunks_exact_rest c.next.new.self), s.1.1, l.0))
+
+pub loop-event-preserved : goal.loop-event-preserved
+loop-event-preserved c =
+    let z = c.args in
+    let s = c.in-Some.ensures.steps in
+    let l = c.loop-event.invariant in
     let w = c.write_row-p in
-    let near = l.invariant.2.0 in
-    (omega arith, omega arith, lines_next z.events.now z.at z.output.now l.i l.p w.result l.output w.new.output (omega arith) (omega arith) l.invariant.2 (w.ensures.near, (w.ensures.next, w.ensures.words)))
+    (s.0 ∙ l.0, search rules, lines-next l.2 z.made (length-take-le (3 * z.made) z.events.now c.requires.0) c.requires.1 _ _ w.result w.new.output s.1.0 (s.1.1 ∙ l.0) (w.ensures.near, (w.ensures.next, w.ensures.words)))
 
 pub returns : goal.returns
 returns c =
     let z = c.args in
-    let l = c.loop-i in
-    let all = lines-all z.events.now z.at z.output.now l.i z.made l.p l.output (omega arith) l.invariant.2 in
+    let s = c.in-None.ensures.steps in
+    let l = c.loop-event.invariant in
+    let all = lines-all l.2 z.made (length-take-le (3 * z.made) z.events.now c.requires.0) c.requires.1 (omega (arith, s.1.0, l.0)) in
     record { near = all.0; next = all.1.0; words = all.1.1 }

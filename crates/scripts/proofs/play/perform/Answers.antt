@@ -1,26 +1,11 @@
 -- A call is lent the part of the event area behind the events so far, as many words as it asks for, or what is left.
-use Rattle.std.proofs.Common.{◌≡◌, ◌+◌, ◌-◌, ◌*◌, Some, ap, ◌∙◌, arith, rules}
+use Rattle.std.proofs.Common.{◌≡◌, ◌+◌, ◌-◌, ◌*◌, Some, ap, ◌∙◌, arith}
 use Rattle.scripts.specs.declared.order.Order.TheVariants.{Run, Step, RollBack}
-use Rattle.scripts.proofs.Played.{from_low, few, run_more, step-more, order-more, none_more}
+use Rattle.scripts.proofs.Played.{few, run_more, step-more, order-more, none_more}
 use Rattle.scripts.proofs.play.perform.Goals as goal
 
-pub overflow_mul-from : goal.overflow_mul-from
-overflow_mul-from c = let h = from_low c.requires in search rules
-
-pub overflow_sub-events : goal.overflow_sub-events
-overflow_sub-events c = from_low c.requires
-
-pub overflow_add-from : goal.overflow_add-from
-overflow_add-from c = let h = from_low c.requires in let m = c.min-lent.ensures in search rules
-
-pub offset_bounds-events-from : goal.offset_bounds-events-from
-offset_bounds-events-from c = let h = from_low c.requires in search rules
-
-pub slice_bounds-run-end : goal.slice_bounds-run-end
-slice_bounds-run-end c = omega (arith, c.min-lent.ensures, from_low c.requires)
-
 pub noted-requires : goal.noted-requires
-noted-requires c = few c.requires c.run-answer.result _ _ _ _ _ c.run-answer.ensures
+noted-requires c = few c.requires.playing c.run-answer.result _ _ _ _ _ c.run-answer.ensures
 
 pub returns-in-Some-Run : goal.returns-in-Some-Run
 returns-in-Some-Run c = λ area l e.
@@ -30,17 +15,8 @@ returns-in-Some-Run c = λ area l e.
     let from = 3 * z.p.events in
     run_more z.p z.after.now z.tail.now z.marks.now z.events.now area l e z.budget z.room (from + c.min-lent.result - from) c.run-answer.result _ _ _ _ (named ∙ ap Some is) (omega (arith, c.min-lent.ensures)) c.noted.ensures c.run-answer.ensures
 
-pub overflow_add-from-in-Some-Step : goal.overflow_add-from-in-Some-Step
-overflow_add-from-in-Some-Step c = let h = from_low c.requires in let m = c.min-lent.ensures in search rules
-
-pub offset_bounds-events-from-in-Some-Step : goal.offset_bounds-events-from-in-Some-Step
-offset_bounds-events-from-in-Some-Step c = let h = from_low c.requires in search rules
-
-pub slice_bounds-step-end : goal.slice_bounds-step-end
-slice_bounds-step-end c = omega (arith, c.min-lent.ensures, from_low c.requires)
-
 pub noted-requires-in-Some-Step : goal.noted-requires-in-Some-Step
-noted-requires-in-Some-Step c = few c.requires c.step-answer.result _ _ _ _ _ c.step-answer.ensures
+noted-requires-in-Some-Step c = few c.requires.playing c.step-answer.result _ _ _ _ _ c.step-answer.ensures
 
 pub returns-in-Some-Step : goal.returns-in-Some-Step
 returns-in-Some-Step c = λ area l e.
@@ -51,7 +27,7 @@ returns-in-Some-Step c = λ area l e.
     step-more z.p z.after.now z.tail.now z.marks.now z.events.now area l e z.budget z.room (from + c.min-lent.result - from) c.step-answer.result _ _ _ _ (named ∙ ap Some is) (omega (arith, c.min-lent.ensures)) c.noted-in-Some-Step.ensures c.step-answer.ensures
 
 pub noted-requires-in-Some-RollBack : goal.noted-requires-in-Some-RollBack
-noted-requires-in-Some-RollBack c = let z = c.args in few c.requires c.roll_back.result _ _ _ _ _ (c.roll_back.ensures z.after.now z.tail.now z.marks.now)
+noted-requires-in-Some-RollBack c = let z = c.args in few c.requires.playing c.roll_back.result _ _ _ _ _ (c.roll_back.ensures z.after.now z.tail.now z.marks.now)
 
 pub returns-in-Some-RollBack : goal.returns-in-Some-RollBack
 returns-in-Some-RollBack c = λ area l e.

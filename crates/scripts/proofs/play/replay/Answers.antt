@@ -1,9 +1,8 @@
 -- The loop keeps what was performed, and what the words that are left lead to.
-use Rattle.std.proofs.Common.{◌-◌, length, drop, length-drop, arith}
-use lib.Seq.{take_all}
+use Rattle.std.proofs.Common.{◌-◌, length, drop, length-drop, arith, take_all}
 use Rattle.std.proofs.lemmas.Result.{err_from_is_err_and}
 use Rattle.images.specs.Checking.{image}
-use Rattle.scripts.proofs.Played.{none_made, first-played, next-played, last-played}
+use Rattle.scripts.proofs.Played.{from_low, playing, none_made, first-played, next-played, last-played}
 use Rattle.scripts.proofs.play.replay.Goals as goal
 
 pub returns-in_err-opened : goal.returns-in_err-opened
@@ -14,6 +13,9 @@ returns-in_err-opened c =
 
 pub loop-left-init : goal.loop-left-init
 loop-left-init c = let z = c.args in first-played (image z.n z.m z.after.now z.tail.now) z.before.now z.start.0 z.marks.now z.events.now z.script.now c.in_ok-opened.opened c.in_ok-opened.ensures
+
+pub perform-p-requires-clause-written : goal.perform-p-requires-clause-written
+perform-p-requires-clause-written c = from_low (playing c.loop-left.invariant)
 
 pub loop-left-preserved : goal.loop-left-preserved
 loop-left-preserved c =

@@ -4,6 +4,7 @@ use mathlib.Core.Path.{◌≡◌, ap, ◌∙◌}
 use mathlib.Core.List.{List, []}
 use Prim.Native.Nat.{ℕ}
 use Rattle.folding.specs.Calls.{roll_back}
+use Rattle.states.specs.Answers.{config_of}
 use Rattle.state_words.specs.Handed.{Handed, served_in, handing, handed}
 use Rattle.state_words.proofs.Handing.{handed-short, seen-served}
 use Rattle.state_words.proofs.steps.roll_back_in_words.Goals as goal
@@ -17,5 +18,5 @@ pub returns : goal.returns
 returns c =
     let w = c.args.state.now in
     let is : (after tail marks : List ℕ) → handing _ _ _ _ _ after tail marks [] ≡ handed (served_in w after tail marks roll_back) 0 0 0 w =
-    λ after tail marks. c.hand_back.ensures (served_in w after tail marks roll_back) after tail marks [] (c.roll_back-r.ensures after tail marks ∙ seen-served w after tail marks roll_back c.if-state-lt9.false c.read_state-s.ensures) in
+    λ after tail marks. c.hand_back.ensures (served_in w after tail marks roll_back) (config_of c.read_state-s.result after tail marks) [] (c.roll_back-r.ensures after tail marks ∙ seen-served w after tail marks roll_back c.if-state-lt9.false c.read_state-s.ensures) in
     record { number = λ after tail marks. ap (λ (h : Handed). h.number) (is after tail marks); state = λ after tail marks. ap (λ (h : Handed). h.state) (is after tail marks) }

@@ -1,6 +1,7 @@
 -- Fewer than nine words are refused with number 3; else the step is served on the state read out of them, and its reply handed back.
 use mathlib.Core.Path.{◌∙◌}
 use Rattle.folding.specs.Calls.{single}
+use Rattle.states.specs.Answers.{config_of}
 use Rattle.state_words.specs.Handed.{served_in}
 use Rattle.state_words.proofs.Handing.{handed-short, seen-served}
 use Rattle.state_words.proofs.steps.step_in_words.Goals as goal
@@ -14,5 +15,5 @@ pub returns : goal.returns
 returns c =
     let z = c.args in
     let s = c.step-r in
-    c.hand_back.ensures (served_in z.state.now z.after.now z.tail.now z.marks.now (single z.events.now)) (config_of (state_in z.state.now) s.new.after s.new.tail s.new.marks) s.new.events
+    c.hand_back.ensures (served_in z.state.now z.after.now z.tail.now z.marks.now (single z.events.now)) (config_of c.read_state-s.result s.new.after s.new.tail s.new.marks) s.new.events
     (s.ensures ∙ seen-served z.state.now z.after.now z.tail.now z.marks.now (single z.events.now) c.if-state-lt9.false c.read_state-s.ensures)

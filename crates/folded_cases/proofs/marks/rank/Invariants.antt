@@ -1,9 +1,0 @@
--- `rank` is safe and ends: the events left fall with each turn.
-use Prim.Native.Nat.{◌≤◌, ◌-◌}
-use Rattle.folded_cases.proofs.marks.rank.Given as goal
-
-abbrev pub invariant-loop-i : goal.invariant-loop-i
-invariant-loop-i l = l.i ≤ l.top
-
-abbrev pub decreases-loop-i : goal.decreases-loop-i
-decreases-loop-i l = l.top - l.i

@@ -1,9 +1,0 @@
--- `orders` is safe and ends: the places left fall with each turn.
-use Prim.Native.Nat.{◌≤◌, ◌-◌}
-use Rattle.folded_cases.proofs.panels.orders.Given as goal
-
-abbrev pub invariant-loop-i : goal.invariant-loop-i
-invariant-loop-i l = l.i ≤ 40
-
-abbrev pub decreases-loop-i : goal.decreases-loop-i
-decreases-loop-i l = 40 - l.i

@@ -1,9 +1,0 @@
--- `is_short` is safe and ends: the places left fall with each turn.
-use Prim.Native.Nat.{◌≤◌, ◌-◌}
-use Rattle.folded_cases.proofs.second.is_short.Given as goal
-
-abbrev pub invariant-loop-i : goal.invariant-loop-i
-invariant-loop-i l = l.i ≤ 4
-
-abbrev pub decreases-loop-i : goal.decreases-loop-i
-decreases-loop-i l = 4 - l.i
