@@ -3,13 +3,12 @@ use mathlib.Core.Path.{◌≡◌, refl, sym, ap, ◌∙◌, subst}
 use mathlib.Core.List.{List, [], ◌∷◌, ◌++◌, append_assoc, append-nil}
 use Prim.Native.Nat.{ℕ, zero, suc, ◌+◌, ◌*◌, ◌≤◌, ◌<◌}
 use native.Mathlib.Omega.{arith}
-use native.Mathlib.Nat.{add-zero}
 use Rattle.std.proofs.lemmas.List.{nil_from_length}
 use lib.ListN.{length, get_or, set, take, drop, replicate, length-append, length-replicate}
 use lib.Seq.{take-append_seam, append_snoc}
 use borrow.Author.Tests.{le-leb, lt-ltb, le-ltb}
 use Rattle.lists.specs.Words.{overlay, pasted}
-use Rattle.lists.proofs.Words.{pasted-front, pasted-none, pasted-next, pasted-pasted, length-pasted}
+use Rattle.lists.proofs.Words.{pasted-front, pasted-next, pasted-pasted, length-pasted}
 use Rattle.graphs.specs.Events.{Event, event, code, words}
 use Rattle.graphs.specs.Refusals.{refuse, first_of, unless_refused, lent, short}
 use Rattle.numbers.specs.Decimal.{written, put_at, past_at}
@@ -123,9 +122,6 @@ pub record Lines (ws left : List ℕ) (at : ℕ) (start : List ℕ) (next : ℕ)
   pub whole : length done ≡ 3 * many
   pub lines : Near (18 * many) at start (rows done) next area
 
-pub lines_none : (ws : List ℕ) (at : ℕ) (start : List ℕ) → Lines ws ws at start at start
-lines_none ws at start = record { done = []; many = 0; parts = refl; whole = refl; lines = (omega arith, (sym (add-zero at), sym (pasted-none at start))) }
-
 module _ {ws left : List ℕ} {at : ℕ} {start : List ℕ} {p : ℕ} {s : List ℕ} (W : Lines ws left at start p s) (made : ℕ) (whole : length ws ≡ 3 * made) (fits : at + 18 * made ≤ length start) where
   -- As many events as words.
   lines-many : 3 * W.many + length left ≡ 3 * made
@@ -212,10 +208,6 @@ line_made k stop p q s t A B =
     let W : Wrote 0 start bytes q t = wrote-more 0 start refused_name p s A (omega arith) (field k stop) q t B.1 in
     let e : q ≡ length bytes = omega (arith, W.0) in
     record { long = e; line = (λ j. take (e j) (W.1 j)) ∙ take-append_seam bytes (drop (0 + length bytes) start); most = omega arith; room = g ∙ f ∙ h }
-
--- As many bytes are copied as it has.
-pub made-size : {bytes : List ℕ} {q : ℕ} {area : List ℕ} → Made bytes q area → q ≡ length (take q area)
-made-size M = M.long ∙ sym (ap length M.line)
 
 -- What a call that prints a line answers, and the area that it leaves.
 abbrev number_of : (line output : List ℕ) → ℕ

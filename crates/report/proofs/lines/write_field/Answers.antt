@@ -1,19 +1,22 @@
 -- `write_field` writes a number, and a byte behind it.
 use native.Mathlib.Omega.{arith}
-use Rattle.report.proofs.Rows.{number-wrote, field-wrote}
+use Rattle.numbers.specs.Decimal.{written}
+use Rattle.report.proofs.Rows.{Near, number-wrote, field-wrote}
+use Rattle.report.proofs.lines.write_field.Goals.{After-write_number-p}
 use Rattle.report.proofs.lines.write_field.Goals as goal
 
-pub bounds-output-p : goal.bounds-output-p
-bounds-output-p c =
+-- The number is written.
+number : (c : After-write_number-p) → Near 5 c.args.at c.args.output.now (written c.args.x) c.write_number-p.result c.write_number-p.new.area
+number c =
     let z = c.args in
     let w = c.write_number-p in
-    omega (arith, c.requires, (number-wrote z.x z.at w.result z.output.now w.new.area (omega (arith, c.ranges.x)) c.requires (w.ensures.next, w.ensures.words)).0)
+    number-wrote z.x z.at w.result z.output.now w.new.area (omega (arith, c.ranges.x)) c.requires (w.ensures.next, w.ensures.words)
+
+pub bounds-output-p : goal.bounds-output-p
+bounds-output-p c = let n = (number (goal.at.bounds-output-p c).After-write_number-p).0 in omega (arith, c.requires)
 
 pub overflow_add-result : goal.overflow_add-result
-overflow_add-result c =
-    let z = c.args in
-    let w = c.write_number-p in
-    omega (arith, c.requires, (number-wrote z.x z.at w.result z.output.now w.new.area (omega (arith, c.ranges.x)) c.requires (w.ensures.next, w.ensures.words)).0)
+overflow_add-result c = let n = (number (goal.at.overflow_add-result c).After-write_number-p).0 in omega (arith, c.requires)
 
 pub returns : goal.returns
 returns c =

@@ -1,13 +1,10 @@
 -- `write_rows` writes the lines of the first events.
 -- Invariant: those of the words that the iterator has given are written.
-use Rattle.std.proofs.Common.{refl, ap, ◌∙◌, arith, rules, ◌*◌, length, take, length-append}
+use Rattle.std.proofs.Common.{ap, ◌∙◌, arith, rules, ◌*◌, length, length-append}
 use Rattle.std.specs.Slice.Iter.{chunks_exact_rest}
 use lib.Seq.{length-take-le}
-use Rattle.report.proofs.Rows.{lines_none, lines-room, lines-next, lines-all}
+use Rattle.report.proofs.Rows.{lines-room, lines-next, lines-all}
 use Rattle.report.proofs.lines.write_rows.Goals as goal
-
-pub loop-event-init : goal.loop-event-init
-loop-event-init c = let z = c.args in (search rules, refl, search (rules, lines_none (take (3 * z.made) z.events.now) z.at z.output.now))
 
 pub write_row-p-requires : goal.write_row-p-requires
 write_row-p-requires c =
