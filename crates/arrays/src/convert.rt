@@ -21,7 +21,7 @@ fn list_edges(g: &Image, u: Vertex, tails: &mut [u16], numbers: &mut [u16], p: u
 {
     let mut q = p;
     let mut r = g.after[u.0 as usize - 1];
-    // Each edge is known only from the one before it.
+    // Each edge is known only from the one before it, and the position past them is given.
     while r != 0 {
         let i = q as usize - 1;
         let k = (r - g.n) as usize - 1;
@@ -41,6 +41,7 @@ fn group(g: &Image, firsts: &mut [u16], tails: &mut [u16], numbers: &mut [u16])
     ensures numbers { numbers.new ≡ overlay (numbers_of (image_of g.now)) numbers.old }
 {
     let mut p: u16 = 1;
+    // By number: of words written through an iterator a proof would know nothing afterwards.
     for u in 0..g.n {
         firsts[u as usize] = p;
         p = list_edges(g, Vertex(u + 1), tails, numbers, p);

@@ -49,7 +49,7 @@ pub fn check_query(a: &ArrayForm, u: Vertex) -> Result<(), Refusal>
 }
 
 // The part of the tails from the first position of u up to the next vertex's.
-fn part<'a>(a: &ArrayForm<'a>, u: Vertex) -> &'a [u16]
+fn part<'t>(a: &ArrayForm<'_, 't>, u: Vertex) -> &'t [u16]
     requires { Asked (form_of a.now) u.0 }
     ensures { result.now ≡ part_of (form_of a.now) u.0 }
 {
@@ -59,8 +59,9 @@ fn part<'a>(a: &ArrayForm<'a>, u: Vertex) -> &'a [u16]
     &a.tails[from..end]
 }
 
-// The part of the tails that holds the vertices which the edges out of u lead to; the empty part where there are none or the query is refused.
-pub fn edges_out<'a>(a: &ArrayForm<'a>, u: Vertex) -> &'a [u16]
+// The part of the tails that holds the vertices which the edges out of u lead to; the empty part where there are none or the query is refused,
+// as `queried` says: why it is refused, `check_query` tells.
+pub fn edges_out<'t>(a: &ArrayForm<'_, 't>, u: Vertex) -> &'t [u16]
     ensures { result.now ≡ queried (form_of a.now) u.0 }
 {
     match check_query(a, u) {

@@ -29,7 +29,8 @@ fn last_node(g: &Image, x: u16) -> u16
     f
 }
 
-// What a scan gives: the last node examined, the last node of the queue, the vertex that waits next, 0 where none does, and the tally.
+// What a scan gives: the last node examined, the last node of the queue, the vertex that waits next, 0 where none does, and the tally. The
+// nodes are words as the links hold them.
 #[derive(Clone, Copy)]
 pub(crate) struct Scanned {
     pub e: u16,

@@ -22,7 +22,7 @@ use walks::{Kind, begin, check_array_walk, clear, emit, label};
 pub(crate) struct Position(pub u16);
 
 // The place that the search has come to: the vertex being scanned, the position next to traverse, the parent of that vertex, 0 for the
-// start, and the tally.
+// start, as the tails hold it, and the tally.
 #[derive(Clone, Copy)]
 pub(crate) struct Place {
     pub v: Vertex,
@@ -32,6 +32,7 @@ pub(crate) struct Place {
 }
 
 // Whether the vertex of these words is not labelled: its increment is 0, and it is not on the blank.
+#[inline(always)]
 fn is_new(increments: &[u16], marks: &[u16], i: usize) -> bool
     requires { (i < length increments.now) × (i < length marks.now) }
     ensures { result ≡ is_new (get_or increments.now i 0) (get_or marks.now i 0) }
@@ -41,6 +42,7 @@ fn is_new(increments: &[u16], marks: &[u16], i: usize) -> bool
 
 // Traverses position p, the trailer being the parent of v: on to the vertex that it leads to where that is not labelled, else to the next
 // position.
+#[inline(always)]
 fn advance(
     n: u16,
     m: u16,
@@ -85,6 +87,7 @@ fn advance(
 }
 
 // Ends the scan of v, and goes back along the tree edge into it, whose tail gets v back.
+#[inline(always)]
 fn retreat(
     n: u16,
     m: u16,
@@ -116,6 +119,7 @@ fn retreat(
 }
 
 // Goes on until the vertex being scanned has no edge left.
+#[inline(always)]
 fn descend(
     n: u16,
     m: u16,

@@ -12,6 +12,7 @@ use states::{Phase, State};
 use walks::Kind;
 
 // The phase once an edge is put back: rolling back goes on, and else the search is restoring.
+#[inline(always)]
 fn relinked(phase: u16) -> u16
     ensures { result ≡ relinked (eqb phase rolling_back) }
 {
@@ -23,6 +24,7 @@ fn relinked(phase: u16) -> u16
 }
 
 // Puts back f, an edge (document 01: Turn): e, f, a(f) become f, a(f), e.
+#[inline(always)]
 pub(crate) fn relink(s: State, areas: &mut Areas, made: usize) -> Option<Tried>
     requires { Lent s areas.old × (s.n < s.f) }
     ensures left { Tries s relink made areas.old areas.new result }
@@ -46,6 +48,7 @@ pub(crate) fn relink(s: State, areas: &mut Areas, made: usize) -> Option<Tried>
 }
 
 // The tree edge into v, which is a(f) once a(v) is e; none where that is no edge, or where its tail word cannot be a trailer.
+#[inline(always)]
 fn tree_edge(s: State, areas: &Areas) -> Option<u16>
     requires { Lent s areas.now × (0 < s.f) × (s.f ≤ s.n) }
     ensures read { result ≡ upward_in (held s areas.now) }
@@ -65,6 +68,7 @@ fn tree_edge(s: State, areas: &Areas) -> Option<u16>
 }
 
 // What the scan of v leaves in its mark: the remainder by 32,768 (document 02, item 5).
+#[inline(always)]
 fn unmark(marks: &mut [u16], v: u16)
     requires { (0 < v) × (v ≤ length marks.old) }
     ensures { marks.new ≡ put 0 marks.old v (scan_mark (at 0 marks.old v)) }
@@ -74,6 +78,7 @@ fn unmark(marks: &mut [u16], v: u16)
 }
 
 // Ends the scan of v, and goes back along the tree edge into it (document 01: Close).
+#[inline(always)]
 pub(crate) fn retreat(s: State, areas: &mut Areas, made: usize) -> Option<Tried>
     requires { Lent s areas.old × (0 < s.f) × (s.f ≤ s.n) × Room made areas.old }
     ensures left { Tries s retreat made areas.old areas.new result }
@@ -114,6 +119,7 @@ pub(crate) fn retreat(s: State, areas: &mut Areas, made: usize) -> Option<Tried>
 }
 
 // Ends the scan of the start.
+#[inline(always)]
 pub(crate) fn finish(s: State, areas: &mut Areas, made: usize) -> Option<Tried>
     requires { Lent s areas.old × Room made areas.old }
     ensures left { Tries s finish made areas.old areas.new result }
@@ -138,6 +144,7 @@ pub(crate) fn finish(s: State, areas: &mut Areas, made: usize) -> Option<Tried>
 }
 
 // Leaves v along the tree edge into it, rolling back.
+#[inline(always)]
 pub(crate) fn undo_tree(s: State, areas: &mut Areas, made: usize) -> Option<Tried>
     requires { Lent s areas.old × (0 < s.f) × (s.f ≤ s.n) }
     ensures left { Tries s undo_tree made areas.old areas.new result }
@@ -179,6 +186,7 @@ fn rest_marks(marks: &mut [u16], n: usize)
 }
 
 // Leaves the start, rolling back: the marks of the n vertices become 0, but 65,535 stays.
+#[inline(always)]
 pub(crate) fn undo_open(s: State, areas: &mut Areas, made: usize) -> Option<Tried>
     requires { Lent s areas.old }
     ensures left { Tries s undo_open made areas.old areas.new result }

@@ -12,6 +12,7 @@ use states::State;
 use walks::Kind;
 
 // Goes on along e to x, which is not labelled: a(v) becomes e; v, f, t(e) become x, v, f; x is marked 32,768 plus the next label number.
+#[inline(always)]
 fn tree(s: State, x: u16, areas: &mut Areas, made: usize) -> Option<Tried>
     requires { Lent s areas.old × (s.n < s.e.0) × (x ≡ at s.n areas.old.tail.now s.e.0) × (0 < x) × (x ≤ s.n) × Room made areas.old }
     ensures left { Tries s tree made areas.old areas.new result }
@@ -54,6 +55,7 @@ fn tree(s: State, x: u16, areas: &mut Areas, made: usize) -> Option<Tried>
 
 // Circular, once an edge was met that leads to a vertex with this mark: 1 where that is labelled and not yet scanned, and is not one on
 // the blank, whose mark is the largest.
+#[inline(always)]
 fn circled(mark: u16, circular: u16) -> u16
     ensures { result ≡ cond (unscanned mark) 1 circular }
 {
@@ -65,6 +67,7 @@ fn circled(mark: u16, circular: u16) -> u16
 }
 
 // Passes e, which leads to a labelled vertex with this mark: e, f, a(e) become a(e), e, f.
+#[inline(always)]
 fn nontree(s: State, mark: u16, areas: &mut Areas, made: usize) -> Option<Tried>
     requires { Lent s areas.old × (s.n < s.e.0) × (is_vertex s.n (at s.n areas.old.tail.now s.e.0) ≡ true) × (mark ≡ at 0 areas.old.marks.now (at s.n areas.old.tail.now s.e.0)) × Room made areas.old }
     ensures left { Tries s nontree made areas.old areas.new result }
@@ -104,6 +107,7 @@ fn nontree(s: State, mark: u16, areas: &mut Areas, made: usize) -> Option<Tried>
 }
 
 // Traverses e.
+#[inline(always)]
 pub(crate) fn advance(s: State, areas: &mut Areas, made: usize) -> Option<Tried>
     requires { Lent s areas.old × (s.n < s.e.0) × Room made areas.old }
     ensures left { Tries s (onward (held s areas.old)) made areas.old areas.new result }

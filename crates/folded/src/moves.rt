@@ -10,6 +10,7 @@ use crate::tried::Tried;
 use states::{Phase, State};
 
 // The step to come where it does not go forward.
+#[inline(always)]
 fn go_back(s: State, areas: &mut Areas, made: usize) -> Option<Tried>
     requires { Lent s areas.old × (forward (held s areas.old) ≡ false) × Room made areas.old }
     ensures left { Tries s (step_of (held s areas.old)) made areas.old areas.new result }
@@ -32,6 +33,7 @@ fn go_back(s: State, areas: &mut Areas, made: usize) -> Option<Tried>
 }
 
 // Makes the step to come, where the words that it reads are in kind.
+#[inline(always)]
 pub(crate) fn make(s: State, areas: &mut Areas, made: usize) -> Option<Tried>
     requires { Lent s areas.old × Room made areas.old }
     ensures left { Tries s (step_of (held s areas.old)) made areas.old areas.new result }

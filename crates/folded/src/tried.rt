@@ -14,6 +14,7 @@ pub struct Tried {
 }
 
 // Whether r is one of the edges n + 1 to n + m.
+#[inline(always)]
 pub(crate) fn is_edge(n: u16, m: u16, r: u16) -> bool
     ensures { result ≡ is_edge n m r }
 {
@@ -21,6 +22,7 @@ pub(crate) fn is_edge(n: u16, m: u16, r: u16) -> bool
 }
 
 // The after word of node x, as it is read once that of v is e.
+#[inline(always)]
 pub(crate) fn read_after(areas: &Areas, x: u16, v: u16, e: u16) -> u16
     requires { (0 < x) × (x ≤ length areas.now.after.now) × (0 < v) × (v ≤ length areas.now.after.now) }
     ensures { result ≡ at 0 (put 0 areas.now.after.now v e) x }
@@ -33,6 +35,7 @@ pub(crate) fn read_after(areas: &Areas, x: u16, v: u16, e: u16) -> u16
 }
 
 // Writes the words of events behind the first `made`: three for each, its kind, edge and vertex.
+#[inline(always)]
 pub(crate) fn write(events: &mut [u16], made: usize, words: &[u16])
     requires { 3 * made + length words.now ≤ length events.old }
     ensures { events.new ≡ pasted (3 * made) words.now events.old }

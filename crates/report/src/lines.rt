@@ -72,7 +72,7 @@ pub(crate) fn print_walk(t: Totals, events: &[u16], output: &mut [u8]) -> usize
     write_row(t.elements, t.moves, t.circular, output, r)
 }
 
-// Prints the line of a refusal: `refused,`, its number and a line feed, at the front of the output area. It is made aside, so that it is written
+// Prints the line of a refusal of any number: `refused,`, its number and a line feed, at the front of the output area. It is made aside, so that it is written
 // whole or, refused by 3 where the area is shorter than the line, not at all.
 pub fn refusal_line(number: u16, output: &mut [u8]) -> Result<usize, Refusal>
     ensures number { number_in result ≡ line_number number output.old }
