@@ -19,7 +19,7 @@ mod printed;
 mod profiles;
 mod queries;
 mod reader;
-mod refusals;
+mod refusal_lines;
 mod rows;
 mod search;
 mod tally;
@@ -70,11 +70,15 @@ fn print_walks(rt: &(impl Print + AllocGlobal)) -> io::Result<()> {
     print_group(rt, "walk_text: texts in form", walked::sound_cases)?;
     print_group(rt, "walk_text: damaged texts", walked::damaged_cases)?;
     print_group(rt, "walk_text: padded and not", padded::cases)?;
-    print_group(rt, "refusal_line: every number", refusals::number_cases)?;
+    print_group(
+        rt,
+        "refusal_line: every number",
+        refusal_lines::number_cases,
+    )?;
     print_group(
         rt,
         "refusal_line: with and without room",
-        refusals::room_cases,
+        refusal_lines::room_cases,
     )
 }
 
