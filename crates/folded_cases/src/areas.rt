@@ -64,6 +64,12 @@ impl Links {
     }
 }
 
+// Writes words over the first ones of an area, as many as it has.
+pub(crate) fn put_first(area: &mut [u16], words: &[u16]) {
+    let top = words.len().min(area.len());
+    area[..top].copy_from_slice(&words[..top]);
+}
+
 // The place of node x in an area.
 pub(crate) fn place_of(x: u16) -> Option<usize> {
     Some(usize::from(x.checked_sub(1)?))

@@ -128,6 +128,7 @@ pub(crate) fn damage_list(list: &mut Vec<u16>, profile: &Profile) -> Result<(), 
 }
 
 // Adds to a list, in one of four ways, a word or two, of which the last is out of order or leaves 1 to 3.
+// A way is a number: each fault has its own few.
 pub(crate) fn fault_list(list: &mut Vec<u16>, way: u16) -> Result<(), AllocError> {
     match way {
         0 => list.push(0)?,

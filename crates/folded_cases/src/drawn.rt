@@ -7,35 +7,63 @@ use crate::second::Second;
 use crate::state::{Field, State};
 use std::alloc::AllocError;
 
-// Puts a fault of the example, in one of four ways: a size, a length, the start, a link, a tail, and a link that puts an edge on a second
-// list or on a ring; the start on the list of elements already on the blank, and this list out of order.
-fn put_fault(second: &mut Second, fault: u16, way: u16) -> Result<(), AllocError> {
-    let is_odd = way % 2 == 1;
-    match fault {
-        0 => second.state.n = if is_odd { 1001 } else { 0 },
-        1 => second.state.m = if is_odd { 65535 } else { 4001 },
-        2 => second.lengths.shorten(Area::numbered(way), 4),
-        3 => second.state.start = if is_odd { 4 } else { 0 },
-        4 if is_odd => put_of(&mut second.links.after, 2, 8),
-        4 => put_of(&mut second.links.after, 1, 2),
-        5 => put_of(
-            &mut second.links.tail,
-            way.saturating_add(1),
-            if is_odd { 4 } else { 0 },
-        ),
-        6 if is_odd => put_of(&mut second.links.after, 7, 7),
-        6 => put_of(&mut second.links.after, 3, 4),
-        7 => second.before.push(1)?,
-        _ => fault_list(&mut second.before, way)?,
-    }
-    Ok(())
+// Faults of the example: a size, a length, the start, a link, a tail, a link that puts an edge on a second list or on a ring, the start on
+// the list of elements already on the blank, and this list out of order.
+#[derive(Clone, Copy)]
+enum Fault {
+    Vertices,
+    Edges,
+    Length,
+    Start,
+    Link,
+    Tail,
+    SecondLink,
+    StartListed,
+    LastListed,
 }
 
-// Puts each of nine faults whose bit is set; the bits above the ninth say the way.
+impl Fault {
+    const ALL: [Fault; 9] = [
+        Fault::Vertices,
+        Fault::Edges,
+        Fault::Length,
+        Fault::Start,
+        Fault::Link,
+        Fault::Tail,
+        Fault::SecondLink,
+        Fault::StartListed,
+        Fault::LastListed,
+    ];
+
+    // Puts the fault into a case, in one of four ways. A way is a number: each fault has its own few.
+    fn put_into(self, second: &mut Second, way: u16) -> Result<(), AllocError> {
+        let is_odd = way % 2 == 1;
+        match self {
+            Fault::Vertices => second.state.n = if is_odd { 1001 } else { 0 },
+            Fault::Edges => second.state.m = if is_odd { 65535 } else { 4001 },
+            Fault::Length => second.lengths.shorten(Area::numbered(way), 4),
+            Fault::Start => second.state.start = if is_odd { 4 } else { 0 },
+            Fault::Link if is_odd => put_of(&mut second.links.after, 2, 8),
+            Fault::Link => put_of(&mut second.links.after, 1, 2),
+            Fault::Tail => put_of(
+                &mut second.links.tail,
+                way.saturating_add(1),
+                if is_odd { 4 } else { 0 },
+            ),
+            Fault::SecondLink if is_odd => put_of(&mut second.links.after, 7, 7),
+            Fault::SecondLink => put_of(&mut second.links.after, 3, 4),
+            Fault::StartListed => second.before.push(1)?,
+            Fault::LastListed => fault_list(&mut second.before, way)?,
+        }
+        Ok(())
+    }
+}
+
+// Puts each of the nine faults whose bit is set, from the lowest on; the bits above the ninth say the way.
 pub(crate) fn put_faults(second: &mut Second, bits: u16) -> Result<(), AllocError> {
-    for fault in 0..9 {
-        if bits >> fault & 1 == 1 {
-            put_fault(second, fault, bits / 512)?;
+    for fault in Fault::ALL {
+        if bits >> fault as u16 & 1 == 1 {
+            fault.put_into(second, bits / 512)?;
         }
     }
     Ok(())

@@ -1,5 +1,5 @@
 // Marks and the circular figure: as they follow from the events so far, and examples of what one step leaves of them.
-use crate::areas::word_of;
+use crate::areas::{put_first, word_of};
 use crate::compare::Case;
 use crate::events::{Event, Kind};
 use crate::moves::UNSCANNED;
@@ -70,16 +70,79 @@ pub(crate) fn note_marks(case: &mut Case) {
 
 // A mark of vertex 2; the figure, where it was 0, and the mark that a step to it leaves; the marks that the end of its scan leaves, and the
 // last step of a roll-back.
-const MARK_ROWS: [[u16; 5]; 9] = [
-    [0, 0, 32770, 0, 0],
-    [1, 0, 1, 1, 0],
-    [7, 0, 7, 7, 0],
-    [32767, 0, 32767, 32767, 0],
-    [32768, 1, 32768, 0, 0],
-    [32769, 1, 32769, 1, 0],
-    [32775, 1, 32775, 7, 0],
-    [65534, 1, 65534, 32766, 0],
-    [65535, 0, 65535, 32767, 65535],
+#[derive(Clone, Copy)]
+struct MarkRow {
+    mark: u16,
+    figure: u16,
+    reached: u16,
+    closed: u16,
+    withdrawn: u16,
+}
+
+const MARK_ROWS: [MarkRow; 9] = [
+    MarkRow {
+        mark: 0,
+        figure: 0,
+        reached: 32770,
+        closed: 0,
+        withdrawn: 0,
+    },
+    MarkRow {
+        mark: 1,
+        figure: 0,
+        reached: 1,
+        closed: 1,
+        withdrawn: 0,
+    },
+    MarkRow {
+        mark: 7,
+        figure: 0,
+        reached: 7,
+        closed: 7,
+        withdrawn: 0,
+    },
+    MarkRow {
+        mark: 32767,
+        figure: 0,
+        reached: 32767,
+        closed: 32767,
+        withdrawn: 0,
+    },
+    MarkRow {
+        mark: 32768,
+        figure: 1,
+        reached: 32768,
+        closed: 0,
+        withdrawn: 0,
+    },
+    MarkRow {
+        mark: 32769,
+        figure: 1,
+        reached: 32769,
+        closed: 1,
+        withdrawn: 0,
+    },
+    MarkRow {
+        mark: 32775,
+        figure: 1,
+        reached: 32775,
+        closed: 7,
+        withdrawn: 0,
+    },
+    MarkRow {
+        mark: 65534,
+        figure: 1,
+        reached: 65534,
+        closed: 32766,
+        withdrawn: 0,
+    },
+    MarkRow {
+        mark: 65535,
+        figure: 0,
+        reached: 65535,
+        closed: 32767,
+        withdrawn: 65535,
+    },
 ];
 
 // A step to vertex 2, at the end of its scan, of a roll-back from it, and the last one of a roll-back.
@@ -93,14 +156,81 @@ enum Move {
 
 // A move, the start, v, e, f and phase before it, and the tail of edge 4. The end of a scan comes with a parent and without, in phases 1
 // and 2.
-const STEP_ROWS: [(Move, [u16; 6]); 7] = [
-    (Move::Reach, [1, 1, 4, 0, SCANNING, 2]),
-    (Move::Close, [1, 2, 0, 1, SCANNING, 0]),
-    (Move::Close, [1, 2, 5, 1, TURNING, 0]),
-    (Move::Close, [2, 2, 0, 0, SCANNING, 0]),
-    (Move::Close, [2, 2, 5, 0, TURNING, 0]),
-    (Move::RollBack, [1, 2, 0, 1, ROLLING_BACK, 0]),
-    (Move::Withdraw, [2, 2, 5, 0, ROLLING_BACK, 0]),
+#[derive(Clone, Copy)]
+struct StepRow {
+    kind: Move,
+    start: u16,
+    v: u16,
+    e: u16,
+    f: u16,
+    phase: u16,
+    tail: u16,
+}
+
+const STEP_ROWS: [StepRow; 7] = [
+    StepRow {
+        kind: Move::Reach,
+        start: 1,
+        v: 1,
+        e: 4,
+        f: 0,
+        phase: SCANNING,
+        tail: 2,
+    },
+    StepRow {
+        kind: Move::Close,
+        start: 1,
+        v: 2,
+        e: 0,
+        f: 1,
+        phase: SCANNING,
+        tail: 0,
+    },
+    StepRow {
+        kind: Move::Close,
+        start: 1,
+        v: 2,
+        e: 5,
+        f: 1,
+        phase: TURNING,
+        tail: 0,
+    },
+    StepRow {
+        kind: Move::Close,
+        start: 2,
+        v: 2,
+        e: 0,
+        f: 0,
+        phase: SCANNING,
+        tail: 0,
+    },
+    StepRow {
+        kind: Move::Close,
+        start: 2,
+        v: 2,
+        e: 5,
+        f: 0,
+        phase: TURNING,
+        tail: 0,
+    },
+    StepRow {
+        kind: Move::RollBack,
+        start: 1,
+        v: 2,
+        e: 0,
+        f: 1,
+        phase: ROLLING_BACK,
+        tail: 0,
+    },
+    StepRow {
+        kind: Move::Withdraw,
+        start: 2,
+        v: 2,
+        e: 5,
+        f: 0,
+        phase: ROLLING_BACK,
+        tail: 0,
+    },
 ];
 
 // The after words.
@@ -111,47 +241,41 @@ const FIRST_MARK: u16 = 33333;
 
 const LAST_MARKS: [u16; 3] = [65535, 40004, 65535];
 
-// Writes words over the first ones of an area.
-fn put_first(area: &mut [u16], words: &[u16]) {
-    for (word, w) in area.iter_mut().zip(words) {
-        *word = *w;
-    }
-}
-
 // One step with a mark of vertex 2 and a figure before.
 fn run_example(
     case: &mut Case,
-    step: (Move, [u16; 6]),
+    step: &StepRow,
     circular: u16,
-    marks: [u16; 5],
+    marks: &MarkRow,
 ) -> Result<(), AllocError> {
-    let (way, [start, v, e, f, phase, tail]) = step;
-    let [mark, figure, reached, closed, withdrawn] = marks;
     let [third, fourth, fifth] = LAST_MARKS;
     let second = &mut case.second;
-    second.size(3, 2, start);
+    second.size(3, 2, step.start);
     second.lengths.events = 9;
     second.state = State {
-        v,
-        e,
-        f,
-        phase,
+        v: step.v,
+        e: step.e,
+        f: step.f,
+        phase: step.phase,
         next: 2,
         circular,
         ..second.state
     };
     put_first(&mut second.links.after, &LINKS);
-    put_first(&mut second.links.tail, &[tail, 3]);
-    put_first(&mut second.marks, &[FIRST_MARK, mark, third, fourth, fifth]);
+    put_first(&mut second.links.tail, &[step.tail, 3]);
+    put_first(
+        &mut second.marks,
+        &[FIRST_MARK, marks.mark, third, fourth, fifth],
+    );
     case.compare(Call::Step)?;
-    let (first, left) = match way {
-        Move::Reach => (FIRST_MARK, reached),
-        Move::Close => (FIRST_MARK, closed),
-        Move::RollBack => (FIRST_MARK, mark),
-        Move::Withdraw => (0, withdrawn),
+    let (first, left) = match step.kind {
+        Move::Reach => (FIRST_MARK, marks.reached),
+        Move::Close => (FIRST_MARK, marks.closed),
+        Move::RollBack => (FIRST_MARK, marks.mark),
+        Move::Withdraw => (0, marks.withdrawn),
     };
-    let met = if way == Move::Reach {
-        figure.max(circular)
+    let met = if step.kind == Move::Reach {
+        marks.figure.max(circular)
     } else {
         circular
     };
@@ -171,7 +295,7 @@ pub(crate) fn example_case(case: &mut Case, i: u16) -> Result<(), AllocError> {
     let marks = MARK_ROWS.get(usize::from(i % 9));
     let step = STEP_ROWS.get(usize::from(i / 18));
     match (marks, step) {
-        (Some(marks), Some(step)) => run_example(case, *step, i / 9 % 2, *marks),
+        (Some(marks), Some(step)) => run_example(case, step, i / 9 % 2, marks),
         _ => Ok(()),
     }
 }

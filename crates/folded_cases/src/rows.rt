@@ -596,13 +596,13 @@ fn make_row(case: &mut Case, row: &Row) -> Result<(), AllocError> {
 
 // Whether the search has ended as written down.
 fn is_at(second: &Second, end: &End) -> bool {
-    let events = &second.events;
+    let told = second
+        .events
+        .iter()
+        .map(|event| (event.kind, event.edge, event.vertex));
     second.state.circular == end.circular
         && second.marks.starts_with(end.marks)
-        && events.len() == end.events.len()
-        && events.iter().zip(end.events.iter()).all(|(event, (kind, edge, vertex))| {
-            event.kind == *kind && event.edge == *edge && event.vertex == *vertex
-        })
+        && told.eq(end.events.iter().copied())
 }
 
 // Whether all marks are withdrawn but those of elements already on the blank.

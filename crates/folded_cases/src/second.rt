@@ -1,5 +1,5 @@
 // The second implementation of the calls: the number of a call as the first field that is out of its bounds, and what the call does.
-use crate::areas::{Lengths, Links, UNTOUCHED, put_of, word_of};
+use crate::areas::{Lengths, Links, UNTOUCHED, put_first, put_of, word_of};
 use crate::calls::check_image;
 use crate::events::{Event, Kind};
 use crate::moves::{ON_BLANK, Stored, UNSCANNED};
@@ -128,10 +128,8 @@ impl Second {
 
     // Takes every edge off the lists.
     pub(crate) fn unlink(&mut self) {
-        let nodes = usize::from(self.state.nodes());
-        for word in self.links.after.iter_mut().take(nodes) {
-            *word = 0;
-        }
+        let top = usize::from(self.state.nodes()).min(self.links.after.len());
+        self.links.after[..top].fill(0);
     }
 
     // Puts edge i, which leads to x, in front of the list of u.
@@ -217,9 +215,7 @@ impl Second {
         if word_of(&self.blank, start) != 0 {
             return Err(Fault::Refused(18));
         }
-        for (mark, blank) in self.marks.iter_mut().zip(self.blank.iter()) {
-            *mark = *blank;
-        }
+        put_first(&mut self.marks, &self.blank);
         put_of(&mut self.marks, start, UNSCANNED + 1);
         self.emit(Kind::Label, 0, start)?;
         self.state.v = start;
