@@ -1,7 +1,7 @@
 -- The figure that is printed of a text.
 -- What is printed is that of the depth-first search, whose figure is the one by paths.
-use Rattle.std.proofs.Common.{◌≡◌, sym, ap, ◌∙◌, List, [], Option, ℕ, length, take, drop}
-use mathlib.Core.Option.{none, some}
+use Rattle.std.proofs.Common.{◌≡◌, sym, ap, ◌∙◌, List, [], ℕ, length, take, drop}
+use mathlib.Core.Option.{Option, none, some}
 use lib.Seq.{take-append_seam}
 use Rattle.lists.specs.Words.{overlay}
 use Rattle.graphs.specs.Claims.{Ready}

@@ -1,7 +1,7 @@
 -- When a text is refused, with areas as long as stated and with short ones: as the reader refuses it, into these areas or into no words.
 -- Areas of 5,000 and 4,000 words hold every profile within the limits; no words hold none.
-use Rattle.std.proofs.Common.{◌≡◌, refl, sym, ap, ◌∙◌, Bool, true, false, cond, not, ◌||◌, List, [], ◌∷◌, Option, ℕ, suc, ◌+◌, ◌≤◌, arith, eqb, ltb, length, ltb-false, lt-ltb, le-ltb}
-use mathlib.Core.Option.{none, some}
+use Rattle.std.proofs.Common.{◌≡◌, refl, sym, ap, ◌∙◌, Bool, true, false, cond, not, ◌||◌, List, [], ◌∷◌, ℕ, suc, ◌+◌, ◌≤◌, arith, eqb, ltb, length, ltb-false, lt-ltb, le-ltb}
+use mathlib.Core.Option.{Option, none, some}
 use borrow.Author.Tests.{eqb-false}
 use Rattle.lists.proofs.Tests.{neither}
 use Rattle.graphs.specs.Refusals.{refuse, first_of, Lent, lent, short, vertices_out, edges_out, vertex_out, text_out}

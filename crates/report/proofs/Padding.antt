@@ -1,7 +1,7 @@
 -- Texts that differ in padding only are walked or refused alike: a text is reported by its length and by what it says.
 -- One that is walked has 4,000 references at most, so no padding makes it too long.
-use Rattle.std.proofs.Common.{◌≡◌, refl, ap, ◌∙◌, sym, Bool, true, false, cond, List, [], ◌∷◌, ◌++◌, Option, ℕ, zero, suc, ◌≤◌, arith, length, ltb-false}
-use mathlib.Core.Option.{none, some}
+use Rattle.std.proofs.Common.{◌≡◌, refl, ap, ◌∙◌, sym, Bool, true, false, cond, List, [], ◌∷◌, ◌++◌, ℕ, zero, suc, ◌≤◌, arith, length, ltb-false}
+use mathlib.Core.Option.{Option, none, some}
 use Rattle.graphs.specs.Refusals.{refuse, Lent, short, size_refusals, vertex_out, text_out}
 use Rattle.graphs.proofs.Refusals.{all-false}
 use Rattle.numbers.specs.Padding.{unpad}
