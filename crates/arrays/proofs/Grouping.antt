@@ -1,12 +1,8 @@
 -- Laws of the converter: what its two loops have written so far.
 -- The list of u is what was written and what is still to follow; the lists of 1 to u are pasted one behind the other.
-use mathlib.Core.Path.{◌≡◌, refl, sym, ap, ◌∙◌, subst}
-use mathlib.Core.Bool.{false}
-use mathlib.Core.List.{List, [], ◌∷◌, ◌++◌, map, map-append, append-nil, append_assoc}
-use Prim.Native.Nat.{ℕ, zero, suc, ◌+◌, ◌-◌, ◌≤◌, ◌<◌}
-use native.Mathlib.Numerals.{add-one}
-use native.Mathlib.Omega.{arith}
-use lib.ListN.{length, get_or, set, length-append, length-map}
+use Rattle.std.proofs.Common.{◌≡◌, refl, sym, ap, ◌∙◌, subst, false, List, [], ◌∷◌, ◌++◌, map, append-nil, append_assoc, ℕ, zero, suc, ◌+◌, ◌-◌, ◌≤◌, ◌<◌, add-one, arith, length, get_or, set, length-append}
+use mathlib.Core.List.{map-append}
+use lib.ListN.{length-map}
 use Rattle.lists.specs.Members.{Mem, here, there}
 use Rattle.lists.specs.Words.{overlay, pasted, values_from}
 use Rattle.lists.proofs.Words.{read_past, length-values, values-append, pasted-front, pasted-none, pasted-next, pasted-pasted, length-pasted, read_at}

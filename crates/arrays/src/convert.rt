@@ -1,4 +1,5 @@
 // The converter of linked images to array form.
+// `to_array` promises each written area by its name, so they stay three.
 ghost use Rattle.std.specs.Prelude.{◌≡◌, ◌++◌, map, ◌+◌, ◌-◌, not, length};
 ghost use Rattle.lists.specs.Words.{overlay, pasted};
 ghost use Rattle.graphs.specs.Image.{to, edges_of};

@@ -38,6 +38,7 @@ fn check_words(a: &ArrayForm, u: Vertex) -> Result<(), Refusal>
 }
 
 // Refused by 1, 2, 3, 4, 5 and 6, of the whole array form: a query for the edges out of u.
+// Three tests as in `check_image`, of another form.
 pub fn check_query(a: &ArrayForm, u: Vertex) -> Result<(), Refusal>
     ensures { number_in result ≡ array_number (form_of a.now) u.0 [] }
 {

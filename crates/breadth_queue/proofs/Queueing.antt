@@ -1,16 +1,9 @@
 -- The search by a queue: what the queue area holds, event by event, and what its two loops keep.
 -- The area is a function of the vertices labelled, in order; those scanned stand before those that wait.
-use mathlib.Core.Path.{◌≡◌, refl, sym, ap, ◌∙◌, subst}
-use mathlib.Core.Logic.{◌≢◌}
-use mathlib.Core.Bool.{Bool, true, false}
-use mathlib.Core.List.{List, [], ◌∷◌, ◌++◌, reverse, reverse_aux-eq, reverse_aux-reverse_aux-nil}
-use Prim.Native.Nat.{ℕ, zero, suc, ◌+◌, ◌-◌, ◌≤◌, ◌<◌, min}
-use native.Mathlib.Numerals.{add-one}
-use native.Mathlib.Omega.{arith}
-use lib.Dec.{ltb}
-use lib.ListN.{length, get_or, set, drop, length-append, length-reverse, get_or-append, get_or-eq_default}
+use Rattle.std.proofs.Common.{◌≡◌, refl, sym, ap, ◌∙◌, subst, ◌≢◌, Bool, true, false, List, [], ◌∷◌, ◌++◌, reverse, ℕ, zero, suc, ◌+◌, ◌-◌, ◌≤◌, ◌<◌, min, add-one, arith, ltb, length, get_or, set, drop, length-append, ltb-true, ltb-false}
+use mathlib.Core.List.{reverse_aux-eq, reverse_aux-reverse_aux-nil}
+use lib.ListN.{length-reverse, get_or-append, get_or-eq_default}
 use lib.Seq.{get_or_at}
-use borrow.Author.Tests.{ltb-true, ltb-false}
 use Rattle.lists.specs.Members.{here}
 use Rattle.lists.specs.Words.{at, put, cleared}
 use Rattle.lists.proofs.Tests.{Compared, equal, other, compare}

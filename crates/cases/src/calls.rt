@@ -5,6 +5,7 @@ use images::{Edge, Image, Vertex};
 use refusals::Refusal;
 
 // An answer, with the number of its refusal.
+// The second implementation says document 01's numbers, so that a wrong number of the library shows.
 fn numbered<T>(answer: Result<T, Refusal>) -> Result<T, u16> {
     answer.map_err(|refusal| refusal.number())
 }

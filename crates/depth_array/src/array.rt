@@ -1,6 +1,7 @@
 // Depth-first search over the array form (the paper's last version): an increment for each vertex says which of its edges was the last
 // tree edge; the tail of a tree edge under way holds the parent of the vertex that the edge leaves, and gets its vertex back. Position p is named n + p.
 // Tails are written while n, m and the first positions are read, so all four are lent one by one; what only reads them is lent an `ArrayForm`.
+// The written areas are passed one by one: each contract says of every one of them what was lent and what is left.
 ghost use Rattle.std.specs.Prelude.{◌≡◌, ◌≢◌, suc, ◌+◌, ◌<◌, ◌≤◌, length, get_or};
 ghost use Rattle.lists.specs.Words.{at};
 ghost use Rattle.graphs.specs.ArrayForm.{array_graph};
@@ -144,6 +145,7 @@ fn descend(
 }
 
 // Goes on until every vertex on the path to v is scanned but the start, and that has no edge left.
+// The loop is that of `depth_parent`, over other areas and places: one for both would take a trait over them.
 fn finish(
     n: u16,
     m: u16,

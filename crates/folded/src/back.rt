@@ -1,4 +1,5 @@
 // The steps back: an edge of the list that was passed is put back; the scan of v ends; v is left while rolling back.
+// Each step is a function of its own: document 01's moves, with Close split by whether f is 0 and by rolling back.
 ghost use Rattle.std.specs.Prelude.{◌≡◌, IfSome, ◌+◌, ◌≤◌, ◌<◌, eqb, length};
 ghost use Rattle.lists.specs.Words.{at, put};
 ghost use Rattle.graphs.specs.Results.{rest_mark, marks_rest};

@@ -28,6 +28,7 @@ fn drive(s: State, budget: u32, areas: &mut Areas) -> Reply
     let mut state = s;
     let mut steps: u32 = 0;
     let mut made: usize = 0;
+    // A `for` over the budget would test ended once more behind it.
     let why = loop {
         if is_over(state) {
             break Reason::Ended;

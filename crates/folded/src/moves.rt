@@ -10,6 +10,7 @@ use crate::tried::Tried;
 use states::{Phase, State};
 
 // The step to come where it does not go forward.
+// It is one of document 01's moves Turn, Close while winding and Close, tested in this order.
 #[inline(always)]
 fn go_back(s: State, areas: &mut Areas, made: usize) -> Option<Tried>
     requires { Lent s areas.old × (forward (held s areas.old) ≡ false) × Room made areas.old }

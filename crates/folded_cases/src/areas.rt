@@ -15,6 +15,7 @@ pub(crate) enum Area {
 
 impl Area {
     // The area of a number below 4.
+    // A rest arm gives every number an area, where TryFrom would ask for an error.
     pub(crate) fn numbered(k: u16) -> Area {
         match k {
             0 => Area::After,

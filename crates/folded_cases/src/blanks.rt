@@ -18,6 +18,7 @@ pub(crate) enum ListKind {
 
 impl ListKind {
     // A kind, of eight draws.
+    // A rest arm gives every draw a kind, where TryFrom would ask for an error.
     pub(crate) fn drawn(chance: Chance) -> ListKind {
         match chance.below(9030, 8) {
             0 => ListKind::One,

@@ -189,6 +189,7 @@ pub(crate) fn check_image(n: u16, m: u16, links: &Links) -> Result<(), u16> {
 }
 
 // An answer, with the number of its refusal.
+// The second implementation says document 01's numbers, so that a wrong number of the library shows.
 fn number_of<T>(answer: Result<T, Refusal>) -> Result<T, u16> {
     answer.map_err(|refusal| refusal.number())
 }

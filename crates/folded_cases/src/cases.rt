@@ -211,6 +211,7 @@ enum Long {
 
 impl Long {
     // The case of a number from 0 on, in turn.
+    // A rest arm gives every number a case, where TryFrom would ask for an error.
     fn numbered(k: u16) -> Long {
         match k % 6 {
             0 => Long::Whole,

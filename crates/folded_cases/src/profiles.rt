@@ -19,6 +19,7 @@ pub(crate) enum Family {
 
 impl Family {
     // The family of a seed: one for each thousand.
+    // A rest arm gives every seed a family, where TryFrom would ask for an error.
     pub(crate) fn of(seed: u16) -> Family {
         match seed / 1000 {
             0 => Family::Drawn,

@@ -1,13 +1,7 @@
 -- A counted card is a good card; roll-back orders by phase.
 -- On line B no number comes before a call's own, so the phase decides; on any state, what is taken has passed each condition.
-use mathlib.Core.Path.{◌≡◌, refl, sym, ap, ◌∙◌}
-use mathlib.Core.Logic.{◌≢◌, ◌⊎◌, inl, inr}
-use mathlib.Core.Bool.{Bool, true, false, ◌||◌, not}
-use mathlib.Core.List.{List, [], ◌∷◌, ◌++◌}
-use Prim.Native.Nat.{ℕ, zero, suc, ◌*◌, ◌≤◌, ◌<◌}
-use native.Mathlib.Omega.{arith}
-use lib.Dec.{eqb, ltb, leb}
-use borrow.Author.Tests.{eqb-false, le-leb, lt-leb, ltb-true, leb-true, leb-false}
+use Rattle.std.proofs.Common.{◌≡◌, refl, sym, ap, ◌∙◌, ◌≢◌, ◌⊎◌, inl, inr, Bool, true, false, ◌||◌, not, List, [], ◌∷◌, ◌++◌, ℕ, zero, suc, ◌*◌, ◌≤◌, ◌<◌, arith, eqb, ltb, leb, le-leb, ltb-true, leb-true, leb-false}
+use borrow.Author.Tests.{eqb-false, lt-leb}
 use Rattle.lists.proofs.Tests.{clash, both}
 use Rattle.graphs.specs.Events.{labelled}
 use Rattle.graphs.specs.Refusals.{Refusal, refuse, first_of, Lent, size_refusals, vertex_out}

@@ -1,14 +1,8 @@
 -- Demand 3, and demand 2 of the folded search: what line B's invariant says of the line.
 -- By the phase; line A's advances are the references met, its scans the elements reached.
-use mathlib.Core.Path.{◌≡◌, refl, sym, ap, ◌∙◌, subst}
-use mathlib.Core.Logic.{◌↔◌, ◌⊎◌, inl, inr}
-use mathlib.Core.Bool.{Bool, true, false, cond}
-use mathlib.Core.List.{List, [], ◌∷◌, ◌++◌, append-nil, reverse, reverse-reverse, IsPrefix}
-use Prim.Native.Nat.{ℕ, ◌+◌, ◌*◌, ◌≤◌, ◌<◌}
-use native.Mathlib.Omega.{arith}
-use lib.ListN.{length}
-use lib.Dec.{eqb}
-use borrow.Author.Tests.{eqb-true, eqb-false}
+use Rattle.std.proofs.Common.{◌≡◌, refl, sym, ap, ◌∙◌, subst, ◌↔◌, ◌⊎◌, inl, inr, Bool, true, false, cond, List, [], ◌∷◌, ◌++◌, append-nil, reverse, ℕ, ◌+◌, ◌*◌, ◌≤◌, ◌<◌, arith, length, eqb, eqb-true}
+use mathlib.Core.List.{reverse-reverse, IsPrefix}
+use borrow.Author.Tests.{eqb-false}
 use Rattle.lists.specs.Members.{Mem, Same}
 use Rattle.lists.specs.Words.{at}
 use Rattle.lists.proofs.Tests.{clash, or-none}

@@ -1,12 +1,6 @@
 -- Demand 1 of the folded search, on any input; the claims on single steps and on the run's tests.
 -- A call that is not refused stays within its areas.
-use mathlib.Core.Path.{◌≡◌, refl, sym, ap, ◌∙◌, subst}
-use mathlib.Core.Logic.{◌≢◌}
-use mathlib.Core.Bool.{Bool, true, not, ◌&&◌}
-use mathlib.Core.List.{List, [], ◌∷◌}
-use Prim.Native.Nat.{ℕ, zero, suc, ◌+◌, ◌*◌, ◌≤◌}
-use native.Mathlib.Omega.{arith}
-use lib.ListN.{length, drop}
+use Rattle.std.proofs.Common.{◌≡◌, refl, sym, ap, ◌∙◌, subst, ◌≢◌, Bool, true, not, ◌&&◌, List, [], ◌∷◌, ℕ, zero, suc, ◌+◌, ◌*◌, ◌≤◌, arith, length, drop}
 use borrow.Author.Tests.{not-false}
 use Rattle.lists.specs.Words.{overlay}
 use Rattle.lists.proofs.Words.{length-put, length-filled, put-past, filled-past}

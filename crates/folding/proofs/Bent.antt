@@ -1,8 +1,6 @@
 -- The links as the folded search bends them, as a function of the place it has come to.
 -- The after words of the edges passed lead back, the tail of a tree edge under way holds what the trailer was at its frame.
-use mathlib.Core.List.{List, [], ◌∷◌}
-use Prim.Native.Nat.{ℕ, suc, ◌+◌}
-use lib.ListN.{length}
+use Rattle.std.proofs.Common.{List, [], ◌∷◌, ℕ, suc, ◌+◌, length}
 use Rattle.lists.specs.Words.{put}
 use Rattle.graphs.specs.Events.{History, labelled}
 use Rattle.graphs.specs.Results.{marks_now}

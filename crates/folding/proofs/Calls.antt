@@ -1,14 +1,8 @@
 -- Every call keeps the invariant of line B, taken or refused; so every list of calls does.
 -- Under the invariant a call meets no condition but 3 for its event area and 9, and a refused call changes nothing.
-use mathlib.Core.Path.{◌≡◌, refl, sym, ap, ◌∙◌, subst}
-use mathlib.Core.Bool.{Bool, true, false, cond, ◌&&◌, ◌||◌, not}
-use mathlib.Core.List.{List, [], ◌∷◌, ◌++◌, append-nil, reverse, reverse_aux}
-use Prim.Native.Nat.{ℕ, suc, ◌+◌, ◌*◌, ◌≤◌}
-use native.Mathlib.Omega.{arith}
-use native.Mathlib.Nat.{add-zero}
-use lib.ListN.{length, length-append}
-use lib.Dec.{ltb, leb}
-use borrow.Author.Tests.{eqb-false, le-leb, le-ltb, ne_eqb}
+use Rattle.std.proofs.Common.{◌≡◌, refl, sym, ap, ◌∙◌, subst, Bool, true, false, cond, ◌&&◌, ◌||◌, not, List, [], ◌∷◌, ◌++◌, append-nil, reverse, ℕ, suc, ◌+◌, ◌*◌, ◌≤◌, arith, add-zero, length, length-append, ltb, leb, le-leb, le-ltb, ne_eqb}
+use mathlib.Core.List.{reverse_aux}
+use borrow.Author.Tests.{eqb-false}
 use Rattle.lists.specs.Members.{Mem, here}
 use Rattle.lists.specs.Words.{at, put}
 use Rattle.lists.proofs.Tests.{clash, or-true, or-none}

@@ -1,6 +1,6 @@
 -- The cards, in one theorem.
 -- By computation on the definitions.
-use mathlib.Core.Path.{refl}
+use Rattle.std.proofs.Common.{refl}
 use Rattle.lists.specs.Words.{at, put}
 use Rattle.graphs.specs.Image.{edges_of}
 use Rattle.graphs.specs.Search.{walk_edges, search, depth_first, traverse_all, drain, breadth_first}

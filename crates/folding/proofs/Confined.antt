@@ -1,13 +1,8 @@
 -- On any words at all, sound or not: a step that fits leaves every state field in kind, every area as long as it was, and every word past
 -- the stated lengths; so does a run, and the words of its events fit its area.
 -- Each store of a step is at a node that the step has judged, or that a state field in kind names.
-use mathlib.Core.Path.{◌≡◌, refl, sym, ◌∙◌}
-use mathlib.Core.Bool.{Bool, true, false, cond, ◌&&◌, not}
-use Prim.Native.Nat.{ℕ, zero, suc, ◌+◌, ◌*◌, ◌≤◌}
-use native.Mathlib.Omega.{arith}
-use lib.ListN.{length, drop, length-append}
-use lib.Dec.{eqb, ltb, leb}
-use borrow.Author.Tests.{eqb-false, ltb-false, leb-true, lt-ltb, le-leb, not-true}
+use Rattle.std.proofs.Common.{◌≡◌, refl, sym, ◌∙◌, Bool, true, false, cond, ◌&&◌, not, ℕ, zero, suc, ◌+◌, ◌*◌, ◌≤◌, arith, length, drop, length-append, eqb, ltb, leb, ltb-false, leb-true, lt-ltb, le-leb}
+use borrow.Author.Tests.{eqb-false, not-true}
 use Rattle.lists.specs.Words.{at}
 use Rattle.lists.proofs.Tests.{and-true, both}
 use Rattle.lists.proofs.Words.{length-put, length-filled, put-past, filled-past}

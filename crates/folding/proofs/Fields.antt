@@ -1,10 +1,6 @@
 -- The state fields in kind, as a test and as facts.
 -- The test is the conjunction of the facts' tests.
-use mathlib.Core.Path.{◌≡◌}
-use mathlib.Core.Bool.{true, ◌&&◌}
-use Prim.Native.Nat.{suc, ◌≤◌}
-use lib.Dec.{ltb, leb}
-use borrow.Author.Tests.{leb-true, le-leb}
+use Rattle.std.proofs.Common.{◌≡◌, true, ◌&&◌, suc, ◌≤◌, ltb, leb, leb-true, le-leb}
 use Rattle.lists.proofs.Tests.{and-true, both}
 use Rattle.graphs.specs.Nodes.{is_vertex, is_link, is_node}
 use Rattle.folding.specs.Machine.{Config}

@@ -1,9 +1,7 @@
 -- The events so far at a place are the first of all: their counts, and their order.
 -- What is left of the recursive search only adds to them.
-use mathlib.Core.Path.{◌≡◌, sym, ap, ◌∙◌, subst}
-use mathlib.Core.List.{List, [], ◌∷◌, ◌++◌, reverse, reverse-append, reverse_aux, reverse_aux-eq, reverse_aux-reverse_aux-nil, IsPrefix, IsSuffix, IsSuffix-trans}
-use Prim.Native.Nat.{ℕ, ◌+◌, ◌≤◌, ◌<◌}
-use native.Mathlib.Omega.{arith}
+use Rattle.std.proofs.Common.{◌≡◌, sym, ap, ◌∙◌, subst, List, [], ◌∷◌, ◌++◌, reverse, ℕ, ◌+◌, ◌≤◌, ◌<◌, arith}
+use mathlib.Core.List.{reverse-append, reverse_aux, reverse_aux-eq, reverse_aux-reverse_aux-nil, IsPrefix, IsSuffix, IsSuffix-trans}
 use Rattle.lists.proofs.Counts.{bump-grow}
 use Rattle.graphs.specs.Events.{Kind, Event, event, advance_tree, advance_nontree, scan, History, ◌▸◌, same, count}
 use Rattle.graphs.specs.Search.{depth_first}

@@ -1,11 +1,7 @@
 -- What the bent links hold where the search reads them.
 -- A word is bent only where its node's owner is on the path, so the words of every other vertex are as loaded.
-use mathlib.Core.Path.{◌≡◌, refl, sym, ap, ◌∙◌, subst}
-use mathlib.Core.Logic.{◌≢◌}
-use mathlib.Core.List.{List, [], ◌∷◌, reverse_aux}
-use Prim.Native.Nat.{ℕ, ◌<◌}
-use native.Mathlib.Omega.{arith}
-use lib.ListN.{length}
+use Rattle.std.proofs.Common.{◌≡◌, refl, sym, ap, ◌∙◌, subst, ◌≢◌, List, [], ◌∷◌, ℕ, ◌<◌, arith, length}
+use mathlib.Core.List.{reverse_aux}
 use Rattle.lists.specs.Members.{Mem, here, there, NoDup}
 use Rattle.lists.specs.Words.{at, put}
 use Rattle.lists.proofs.Members.{Split, split}

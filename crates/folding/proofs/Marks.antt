@@ -1,13 +1,7 @@
 -- Marks and circular of a step, on any words.
 -- By the step to come.
-use mathlib.Core.Path.{◌≡◌, refl, sym, ap, ◌∙◌}
-use mathlib.Core.Logic.{◌≢◌}
-use mathlib.Core.Bool.{Bool, true, false, cond, ◌&&◌, not}
-use mathlib.Core.List.{List}
-use Prim.Native.Nat.{ℕ}
-use lib.ListN.{drop}
-use lib.Dec.{eqb, ltb}
-use borrow.Author.Tests.{eqb-true, eqb-false, ne_eqb, le-leb, lt-leb}
+use Rattle.std.proofs.Common.{◌≡◌, refl, sym, ap, ◌∙◌, ◌≢◌, Bool, true, false, cond, ◌&&◌, not, List, ℕ, drop, eqb, ltb, eqb-true, ne_eqb, le-leb}
+use borrow.Author.Tests.{eqb-false, lt-leb}
 use Rattle.lists.specs.Words.{at}
 use Rattle.lists.proofs.Words.{at-filled, filled-behind}
 use Rattle.graphs.specs.Results.{blank_mark, rest_mark, marks_rest}

@@ -1,11 +1,6 @@
 -- With no element on the blank, all is as before there were lists.
 -- No mark of an element reads 65,535, so the exceptions for that mark say nothing.
-use mathlib.Core.Path.{sym, ap, ◌∙◌}
-use mathlib.Core.Bool.{Bool, cond, not, ◌&&◌}
-use mathlib.Core.List.{List, []}
-use Prim.Native.Nat.{ℕ, ◌+◌}
-use lib.Dec.{leb}
-use borrow.Author.Tests.{ne_eqb}
+use Rattle.std.proofs.Common.{sym, ap, ◌∙◌, Bool, cond, not, ◌&&◌, List, [], ℕ, ◌+◌, leb, ne_eqb}
 use Rattle.lists.specs.Words.{at, put}
 use Rattle.lists.proofs.Tests.{and-unit}
 use Rattle.lists.proofs.Members.{mem-nil}

@@ -1,12 +1,6 @@
 -- What a call with a state has passed where it is not refused: sizes, areas, fields, and its own conditions.
-use mathlib.Core.Path.{◌≡◌}
-use mathlib.Core.Bool.{false, not}
-use mathlib.Core.List.{List, [], ◌∷◌, ◌++◌}
-use Prim.Native.Nat.{ℕ, ◌+◌, ◌≤◌}
-use native.Mathlib.Omega.{arith}
-use lib.Dec.{eqb, ltb}
-use lib.ListN.{length}
-use borrow.Author.Tests.{ltb-false, not-false}
+use Rattle.std.proofs.Common.{◌≡◌, false, not, List, [], ◌∷◌, ◌++◌, ℕ, ◌+◌, ◌≤◌, arith, eqb, ltb, length, ltb-false}
+use borrow.Author.Tests.{not-false}
 use Rattle.lists.proofs.Tests.{neither}
 use Rattle.graphs.specs.Refusals.{Refusal, refuse, first_of, Lent, lent, short, vertex_out, size_refusals}
 use Rattle.graphs.proofs.Refusals.{all-false, long}

@@ -1,6 +1,6 @@
 -- The tables of rows, each in one theorem.
 -- By computation on the definitions.
-use mathlib.Core.Path.{refl}
+use Rattle.std.proofs.Common.{refl}
 use Rattle.lists.specs.Rows.{AllAnswered}
 use Rattle.lists.specs.Words.{at, put}
 use Rattle.graphs.specs.Image.{edges_of}

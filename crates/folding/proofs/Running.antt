@@ -1,11 +1,7 @@
 -- A run under the invariant keeps it, and is never stuck.
 -- By recursion on the budget.
-use mathlib.Core.Path.{◌≡◌, refl, sym, ap, ◌∙◌, subst}
-use mathlib.Core.Bool.{Bool, true, false, cond}
-use mathlib.Core.List.{List, reverse_aux, reverse_aux-append}
-use Prim.Native.Nat.{ℕ, zero, suc, ◌+◌}
-use native.Mathlib.Omega.{arith}
-use native.Mathlib.Nat.{add-zero}
+use Rattle.std.proofs.Common.{◌≡◌, refl, sym, ap, ◌∙◌, subst, Bool, true, false, cond, List, ℕ, zero, suc, ◌+◌, arith, add-zero}
+use mathlib.Core.List.{reverse_aux, reverse_aux-append}
 use Rattle.graphs.specs.Image.{Image}
 use Rattle.graphs.proofs.Sound.{Sound}
 use Rattle.folding.specs.Machine.{Stepped, can_step}

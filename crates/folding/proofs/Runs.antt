@@ -1,12 +1,7 @@
 -- Runs on any configuration: why they stop, and how they compose.
 -- By recursion on the budget.
-use mathlib.Core.Path.{◌≡◌, refl, sym, ap, ◌∙◌}
-use mathlib.Core.Bool.{Bool, true, false, cond}
-use mathlib.Core.List.{List, ◌++◌, append_assoc}
-use Prim.Native.Nat.{ℕ, zero, suc, ◌+◌, ◌<◌}
-use native.Mathlib.Omega.{arith}
+use Rattle.std.proofs.Common.{◌≡◌, refl, sym, ap, ◌∙◌, Bool, true, false, cond, List, ◌++◌, append_assoc, ℕ, zero, suc, ◌+◌, ◌<◌, arith, ne_eqb}
 use lib.Dec.{eqb-suc-suc}
-use borrow.Author.Tests.{ne_eqb}
 use Rattle.graphs.specs.Events.{Event}
 use Rattle.folding.specs.Machine.{Config, Stepped, can_step, step}
 use Rattle.folding.specs.Calls.{Reason, ended, spent, stuck, over, Run, stop, onward, proceed, run}

@@ -1,15 +1,8 @@
 -- An opening and every call depend on the stated words of links and marks alone.
 -- On the stated words alone a step reads what it reads on the whole areas, or the same word has already put it out of kind; its stores are the
 -- same. So a run makes the same steps, and every call has the same number.
-use mathlib.Core.Path.{◌≡◌, refl, sym, ap, ◌∙◌, subst}
-use mathlib.Core.Bool.{Bool, true, false, cond, ◌&&◌, ◌||◌, not}
-use mathlib.Core.List.{List, [], ◌∷◌, ◌++◌}
-use Prim.Native.Nat.{ℕ, zero, suc, ◌+◌, ◌*◌, ◌≤◌, ◌<◌}
-use native.Mathlib.Omega.{arith}
-use lib.ListN.{length, take, drop}
-use lib.Seq.{take_at, take-take}
-use lib.Dec.{eqb, ltb, leb}
-use borrow.Author.Tests.{eqb-false, ltb-false, not-true}
+use Rattle.std.proofs.Common.{◌≡◌, refl, sym, ap, ◌∙◌, subst, Bool, true, false, cond, ◌&&◌, ◌||◌, not, List, [], ◌∷◌, ◌++◌, ℕ, zero, suc, ◌+◌, ◌*◌, ◌≤◌, ◌<◌, arith, length, take, drop, take_at, take-take, eqb, ltb, leb, ltb-false}
+use borrow.Author.Tests.{eqb-false, not-true}
 use Rattle.lists.specs.Words.{at, put, overlay, values_from}
 use Rattle.lists.proofs.Tests.{clash, both, and-true}
 use Rattle.lists.proofs.Words.{at_take, take_put, take-filled, filled-same, length-values}

@@ -1,13 +1,7 @@
 -- Each step of the folded search, made at a place, fits and leads to the configuration of the next place.
 -- A step touches only the outermost stores of the bent links, so its new links are those of the next place by the laws of stores.
-use mathlib.Core.Path.{◌≡◌, refl, sym, ap, ◌∙◌}
-use mathlib.Core.Bool.{Bool, true, false, cond, ◌&&◌, not}
-use mathlib.Core.List.{List, [], ◌∷◌, reverse_aux}
-use Prim.Native.Nat.{ℕ, suc, ◌+◌, ◌%◌, ◌≤◌}
-use native.Mathlib.Omega.{arith}
-use lib.ListN.{length, length-append}
-use lib.Dec.{eqb, ltb}
-use borrow.Author.Tests.{eq-eqb, lt-ltb, le-ltb, le-leb}
+use Rattle.std.proofs.Common.{◌≡◌, refl, sym, ap, ◌∙◌, Bool, true, false, cond, ◌&&◌, not, List, [], ◌∷◌, ℕ, suc, ◌+◌, ◌%◌, ◌≤◌, arith, length, length-append, eqb, ltb, eq-eqb, lt-ltb, le-ltb, le-leb}
+use mathlib.Core.List.{reverse_aux}
 use Rattle.lists.specs.Members.{Mem, here, memb}
 use Rattle.lists.specs.Words.{at, put}
 use Rattle.lists.proofs.Tests.{and-true, zero_test}

@@ -1,11 +1,7 @@
 -- Under every list of calls, all steps are at most 14,000 and all events at most 10,000; the next label number counts the labels.
 -- Until a roll-back order is taken the steps are those of the search, and after it those since the order.
-use mathlib.Core.Path.{◌≡◌, refl, sym, ap, ◌∙◌, subst}
-use mathlib.Core.Bool.{Bool, true, false, ◌||◌}
-use mathlib.Core.List.{List, [], ◌∷◌, reverse, reverse-reverse}
-use Prim.Native.Nat.{ℕ, zero, suc, ◌+◌, ◌*◌, ◌≤◌}
-use native.Mathlib.Omega.{arith}
-use lib.ListN.{length, length-append}
+use Rattle.std.proofs.Common.{◌≡◌, refl, sym, ap, ◌∙◌, subst, Bool, true, false, ◌||◌, List, [], ◌∷◌, reverse, ℕ, zero, suc, ◌+◌, ◌*◌, ◌≤◌, arith, length, length-append}
+use mathlib.Core.List.{reverse-reverse}
 use Rattle.lists.proofs.Tests.{clash}
 use Rattle.graphs.specs.Nodes.{Vertex}
 use Rattle.graphs.specs.Events.{History, labelled}

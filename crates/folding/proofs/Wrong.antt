@@ -1,10 +1,6 @@
 -- Each wrong walker of specs/Wrong fails the claim that is named beside it there.
 -- On one small profile each, or two, the claim computes to something false.
-use mathlib.Core.Path.{◌≡◌, refl, sym, ap, ◌∙◌, subst}
-use mathlib.Core.List.{List, [], ◌∷◌, ◌++◌, reverse}
-use Prim.Native.Nat.{ℕ}
-use native.Mathlib.Omega.{arith}
-use lib.ListN.{length, replicate}
+use Rattle.std.proofs.Common.{◌≡◌, refl, sym, ap, ◌∙◌, subst, List, [], ◌∷◌, ◌++◌, reverse, ℕ, arith, length, replicate}
 use Rattle.lists.specs.Counts.{sum_of}
 use Rattle.lists.specs.Words.{at, put}
 use Rattle.lists.proofs.Tests.{clash}

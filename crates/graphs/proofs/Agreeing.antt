@@ -1,11 +1,7 @@
 -- Two graphs with the same list out of each vertex, whose edges lead to the same vertices, have the same searches.
 -- Both searches ask the same of each edge: depth-first by recursion on the fuel and, inside, on the edges; breadth-first along the queue, which
 -- holds vertices.
-use mathlib.Core.Path.{◌≡◌, refl, sym, ap, ◌∙◌, subst}
-use mathlib.Core.Logic.{◌⊎◌, inl, inr}
-use mathlib.Core.Bool.{Bool, true, false}
-use mathlib.Core.List.{List, [], ◌∷◌}
-use Prim.Native.Nat.{ℕ, zero, suc}
+use Rattle.std.proofs.Common.{◌≡◌, refl, sym, ap, ◌∙◌, subst, ◌⊎◌, inl, inr, Bool, true, false, List, [], ◌∷◌, ℕ, zero, suc}
 use Rattle.lists.specs.Members.{Mem, here, there, memb}
 use Rattle.lists.proofs.Members.{mem-nil, mem-one, mem-append, each-cons}
 use Rattle.graphs.specs.Nodes.{Vertex}

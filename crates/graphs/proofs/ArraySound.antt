@@ -1,13 +1,7 @@
 -- What the conditions of an array form come to, as other proofs use it, and that the tests give it.
 -- First positions that never fall from each vertex to the next never fall at all, and lie between the first and the last.
-use mathlib.Core.Path.{◌≡◌, ap, subst}
-use mathlib.Core.Bool.{true, false, ◌&&◌}
-use mathlib.Core.List.{List, [], ◌∷◌, ◌++◌}
-use Prim.Native.Nat.{ℕ, zero, suc, ◌+◌, ◌-◌, ◌≤◌, ◌<◌}
-use native.Mathlib.Omega.{arith}
-use lib.ListN.{length}
-use lib.Dec.{eqb, ltb, leb}
-use borrow.Author.Tests.{eqb-true, leb-true, ltb-false, not-false}
+use Rattle.std.proofs.Common.{◌≡◌, ap, subst, true, false, ◌&&◌, List, [], ◌∷◌, ◌++◌, ℕ, zero, suc, ◌+◌, ◌-◌, ◌≤◌, ◌<◌, arith, length, eqb, ltb, leb, eqb-true, leb-true, ltb-false}
+use borrow.Author.Tests.{not-false}
 use Rattle.lists.specs.Counts.{all_to}
 use Rattle.lists.specs.Words.{at}
 use Rattle.lists.proofs.Tests.{both, neither}

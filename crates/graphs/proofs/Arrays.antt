@@ -1,15 +1,8 @@
 -- The array form of a sound image, in areas of any length, is the same graph, up to the list of edge numbers.
 -- Each edge stands on one list, once, so all lists together have m edges; the list of u is the part of them between two first positions.
-use mathlib.Core.Path.{◌≡◌, refl, sym, ap, ◌∙◌, subst}
-use mathlib.Core.Logic.{◌⊎◌, inl, inr}
-use mathlib.Core.Bool.{true, false, not}
-use mathlib.Core.List.{List, [], ◌∷◌, ◌++◌, map, append-nil, append_assoc}
-use Prim.Native.Nat.{ℕ, zero, suc, ◌+◌, ◌-◌, ◌≤◌, ◌<◌}
-use native.Mathlib.Omega.{arith}
-use lib.Dec.{eqb, leb}
-use lib.ListN.{length, get_or, take, drop, length-append, length-map, get_or-append}
-use lib.Seq.{drop-cons, take-append_seam, drop-append_seam}
-use borrow.Author.Tests.{eqb-true, eq-eqb, ne_eqb, le-leb, le-ltb}
+use Rattle.std.proofs.Common.{◌≡◌, refl, sym, ap, ◌∙◌, subst, ◌⊎◌, inl, inr, true, false, not, List, [], ◌∷◌, ◌++◌, map, append-nil, append_assoc, ℕ, zero, suc, ◌+◌, ◌-◌, ◌≤◌, ◌<◌, arith, eqb, leb, length, get_or, take, drop, length-append, drop-cons, eqb-true, eq-eqb, ne_eqb, le-leb, le-ltb}
+use lib.ListN.{length-map, get_or-append}
+use lib.Seq.{take-append_seam, drop-append_seam}
 use Rattle.lists.specs.Members.{Mem, here, there, NoDup}
 use Rattle.lists.specs.Counts.{count_in}
 use Rattle.lists.specs.Words.{at, overlay, values_from}

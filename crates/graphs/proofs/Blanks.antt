@@ -1,12 +1,7 @@
 -- The list of elements already on the blank, where it is not refused: each an element, none twice, the start not among them.
 -- A strictly rising list has nothing twice.
-use mathlib.Core.Path.{◌≡◌, refl}
-use mathlib.Core.Bool.{false, true, ◌&&◌}
-use mathlib.Core.List.{List, [], ◌∷◌}
-use Prim.Native.Nat.{ℕ, ◌≤◌, ◌<◌}
-use native.Mathlib.Omega.{arith}
-use lib.Dec.{ltb, leb}
-use borrow.Author.Tests.{ltb-true, leb-true, lt-ltb, le-leb, not-false}
+use Rattle.std.proofs.Common.{◌≡◌, refl, false, true, ◌&&◌, List, [], ◌∷◌, ℕ, ◌≤◌, ◌<◌, arith, ltb, leb, ltb-true, leb-true, lt-ltb, le-leb}
+use borrow.Author.Tests.{not-false}
 use Rattle.lists.specs.Members.{Mem, here, there, NoDup}
 use Rattle.lists.proofs.Tests.{both, and-true}
 use Rattle.lists.proofs.Members.{mem-nil, each-cons, memb-false}

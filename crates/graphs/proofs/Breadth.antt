@@ -1,12 +1,8 @@
 -- The breadth-first claim: the relation has one outcome, the executable search; it is complete, and scans in the order of labelling.
 -- What the queue holds is kept edge by edge until it is empty; two derivations are compared step by step; counts go along a derivation.
-use mathlib.Core.Path.{◌≡◌, refl, sym, ap, ◌∙◌, subst, subst₂}
-use mathlib.Core.Logic.{◌⊎◌, inl, inr}
-use mathlib.Core.Bool.{Bool, true, false}
-use mathlib.Core.List.{List, [], ◌∷◌, ◌++◌, reverse_aux, reverse, reverse_aux-eq, reverse_aux-append, reverse_aux-reverse_aux-nil}
-use Prim.Native.Nat.{ℕ, zero, suc, ◌+◌, ◌*◌, ◌≤◌}
-use native.Mathlib.Omega.{arith}
-use lib.ListN.{length, length-append, length-reverse_aux}
+use Rattle.std.proofs.Common.{◌≡◌, refl, sym, ap, ◌∙◌, subst, subst₂, ◌⊎◌, inl, inr, Bool, true, false, List, [], ◌∷◌, ◌++◌, reverse, ℕ, zero, suc, ◌+◌, ◌*◌, ◌≤◌, arith, length, length-append}
+use mathlib.Core.List.{reverse_aux, reverse_aux-eq, reverse_aux-append, reverse_aux-reverse_aux-nil}
+use lib.ListN.{length-reverse_aux}
 use Rattle.lists.specs.Members.{Mem, here, there, memb, NoDup, without}
 use Rattle.lists.specs.Counts.{count_in, sum_of}
 use Rattle.lists.proofs.Members.{mem-nil, each-cons, memb-true, memb-false, mem-left, mem-right, mem-rest, mem-reverse, split, nodup-left, without-none, without_all, without-append}

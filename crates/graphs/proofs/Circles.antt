@@ -1,12 +1,7 @@
 -- Circular by the events of a depth-first search is circular by paths.
 -- What is labelled and not yet scanned has a path to the vertex being scanned, so a reference met that leads there closes a circle. Where
 -- none was met, each vertex is scanned after all that its edges lead to, and there is no circle.
-use mathlib.Core.Path.{◌≡◌, refl, sym, ap, ◌∙◌, subst}
-use mathlib.Core.Logic.{◌⊎◌, inl, inr}
-use mathlib.Core.Bool.{Bool, true, false, cond, not, ◌&&◌}
-use mathlib.Core.List.{List, [], ◌∷◌, ◌++◌}
-use Prim.Native.Nat.{ℕ, zero, suc, ◌≤◌}
-use native.Mathlib.Omega.{arith}
+use Rattle.std.proofs.Common.{◌≡◌, refl, sym, ap, ◌∙◌, subst, ◌⊎◌, inl, inr, Bool, true, false, cond, not, ◌&&◌, List, [], ◌∷◌, ◌++◌, ℕ, zero, suc, ◌≤◌, arith}
 use Rattle.lists.specs.Members.{Mem, here, there, memb, NoDup}
 use Rattle.lists.proofs.Tests.{clash, both}
 use Rattle.lists.proofs.Members.{mem-nil, mem-cons, each-cons, mem-left, mem-right, mem-append, memb-true, mem-memb, memb-of-not}

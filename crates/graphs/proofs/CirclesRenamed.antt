@@ -1,10 +1,6 @@
 -- The figure of a depth-first search does not change where edges get new numbers.
 -- Each edge traversed stands on the list of a vertex, so its new number leads to the same vertex.
-use mathlib.Core.Path.{◌≡◌, refl, sym, ap, ◌∙◌}
-use mathlib.Core.Bool.{Bool, true, false, cond, not, ◌&&◌}
-use mathlib.Core.List.{List, [], ◌∷◌}
-use Prim.Native.Nat.{ℕ, ◌≤◌}
-use native.Mathlib.Omega.{arith}
+use Rattle.std.proofs.Common.{◌≡◌, refl, sym, ap, ◌∙◌, Bool, true, false, cond, not, ◌&&◌, List, [], ◌∷◌, ℕ, ◌≤◌, arith}
 use Rattle.lists.specs.Members.{Mem, here, there, memb, cons_if}
 use Rattle.lists.specs.Counts.{count_in, sum_of}
 use Rattle.lists.proofs.Counts.{count-mem, mem-count, sum-some}

@@ -1,13 +1,6 @@
 -- The depth-first claim: the relation has one outcome, the executable search; it labels and scans what a path leads to, each once.
 -- The executable search satisfies the relation by recursion on its fuel; two derivations are compared step by step.
-use mathlib.Core.Path.{◌≡◌, refl, sym, ap, ◌∙◌, subst}
-use mathlib.Core.Logic.{◌⊎◌, inl, inr}
-use mathlib.Core.Bool.{Bool, true, false}
-use mathlib.Core.List.{List, [], ◌∷◌}
-use Prim.Native.Nat.{ℕ, zero, suc, ◌+◌, ◌*◌, ◌≤◌}
-use native.Mathlib.Omega.{arith}
-use lib.ListN.{length}
-use lib.Dec.{eqb}
+use Rattle.std.proofs.Common.{◌≡◌, refl, sym, ap, ◌∙◌, subst, ◌⊎◌, inl, inr, Bool, true, false, List, [], ◌∷◌, ℕ, zero, suc, ◌+◌, ◌*◌, ◌≤◌, arith, length, eqb}
 use Rattle.lists.specs.Members.{Mem, memb}
 use Rattle.lists.specs.Counts.{bump, count_in, sum_of}
 use Rattle.lists.proofs.Members.{mem-nil, each-cons, mem-left, mem-append, memb-true, memb-false, nodup-left, nodup-apart}

@@ -1,12 +1,7 @@
 -- What the executable depth-first search counts: each labelled vertex is scanned, each edge on its list is traversed, each advance has
 -- its retreat.
 -- One balance between the history before and after, for any weights of vertices and of edges, kept by recursion on the fuel.
-use mathlib.Core.Path.{◌≡◌}
-use mathlib.Core.Bool.{Bool, true, false}
-use mathlib.Core.List.{List, [], ◌∷◌}
-use Prim.Native.Nat.{ℕ, zero, suc, ◌+◌, ◌*◌}
-use native.Mathlib.Omega.{arith}
-use lib.ListN.{length}
+use Rattle.std.proofs.Common.{◌≡◌, Bool, true, false, List, [], ◌∷◌, ℕ, zero, suc, ◌+◌, ◌*◌, arith, length}
 use Rattle.lists.specs.Members.{memb}
 use Rattle.lists.specs.Counts.{sum_of}
 use Rattle.graphs.specs.Graph.{Graph, met}

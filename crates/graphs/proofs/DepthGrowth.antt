@@ -1,12 +1,8 @@
 -- What the executable depth-first search does to its history: it only adds, labels what it must, and does not depend on its fuel where
 -- that is enough.
 -- By recursion on the fuel and, inside, on the edges; enough is as many as there are vertices not yet labelled.
-use mathlib.Core.Path.{◌≡◌, refl, sym, ap, ◌∙◌, subst}
-use mathlib.Core.Bool.{Bool, true, false}
-use mathlib.Core.List.{List, [], ◌∷◌, IsSuffix, suffix_refl, suffix-cons, IsSuffix-trans}
-use Prim.Native.Nat.{ℕ, zero, suc, ◌+◌, ◌≤◌}
-use native.Mathlib.Omega.{arith}
-use lib.ListN.{length}
+use Rattle.std.proofs.Common.{◌≡◌, refl, sym, ap, ◌∙◌, subst, Bool, true, false, List, [], ◌∷◌, ℕ, zero, suc, ◌+◌, ◌≤◌, arith, length}
+use mathlib.Core.List.{IsSuffix, suffix_refl, suffix-cons, IsSuffix-trans}
 use Rattle.lists.specs.Members.{Mem, here, there, memb}
 use Rattle.lists.proofs.Members.{mem-nil, each-cons, memb-true, memb-false}
 use Rattle.graphs.specs.Nodes.{Vertex}

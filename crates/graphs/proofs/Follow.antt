@@ -1,8 +1,6 @@
 -- What every event of a depth-first search keeps holds after the whole search.
 -- By recursion on the derivation; the vertex searched is always reached, and the edges traversed are edges out of it.
-use mathlib.Core.Path.{refl}
-use mathlib.Core.List.{List}
-use Prim.Native.Nat.{ℕ}
+use Rattle.std.proofs.Common.{refl, List, ℕ}
 use Rattle.lists.specs.Members.{Mem, here, there}
 use Rattle.lists.proofs.Members.{mem-right}
 use Rattle.graphs.specs.Graph.{Graph, Leads, along}

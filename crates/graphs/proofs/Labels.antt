@@ -1,11 +1,6 @@
 -- Lists of labelled vertices: each a vertex, none twice; and what it means that one such list has grown out of another.
 -- Growth is transitive, and whatever is new in it has all its edges' targets labelled.
-use mathlib.Core.Path.{◌≡◌, sym, subst}
-use mathlib.Core.Logic.{◌⊎◌, inl, inr}
-use mathlib.Core.List.{List, ◌∷◌, ◌++◌}
-use Prim.Native.Nat.{ℕ, suc, ◌≤◌}
-use native.Mathlib.Omega.{arith}
-use lib.ListN.{length}
+use Rattle.std.proofs.Common.{◌≡◌, sym, subst, ◌⊎◌, inl, inr, List, ◌∷◌, ◌++◌, ℕ, suc, ◌≤◌, arith, length}
 use Rattle.lists.specs.Members.{Mem, there, NoDup}
 use Rattle.lists.specs.Counts.{count_in}
 use Rattle.lists.proofs.Counts.{count-mem, mem-count, count-once, count_most}

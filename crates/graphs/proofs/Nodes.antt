@@ -1,11 +1,6 @@
 -- The tests of nodes, from the facts and to the facts.
 -- Each test is two comparisons.
-use mathlib.Core.Path.{◌≡◌, refl, sym, ap, ◌∙◌}
-use mathlib.Core.Bool.{Bool, true, false, ◌||◌}
-use Prim.Native.Nat.{ℕ, ◌+◌}
-use native.Mathlib.Omega.{arith}
-use lib.Dec.{eqb, ltb, leb}
-use borrow.Author.Tests.{eqb-true, ltb-true, leb-true, lt-ltb, le-leb, ne_eqb}
+use Rattle.std.proofs.Common.{◌≡◌, refl, sym, ap, ◌∙◌, Bool, true, false, ◌||◌, ℕ, ◌+◌, arith, eqb, ltb, leb, eqb-true, ltb-true, leb-true, lt-ltb, le-leb, ne_eqb}
 use Rattle.lists.proofs.Tests.{and-true, both, or-true}
 use Rattle.graphs.specs.Nodes.{Vertex, Edge, is_vertex, is_edge, is_link, is_node}
 

@@ -1,11 +1,6 @@
 -- A graph in which each edge stands on one list, once: a linked image that is sound, and an array form that is.
 -- The lists of any vertices, none twice, one after the other have no edge twice, so they have at most m edges.
-use mathlib.Core.Path.{◌≡◌, refl, sym, ap, ◌∙◌, subst}
-use mathlib.Core.Logic.{◌⊎◌, inl, inr}
-use mathlib.Core.List.{List, [], ◌∷◌, ◌++◌}
-use Prim.Native.Nat.{ℕ, zero, suc, ◌+◌, ◌-◌, ◌≤◌, ◌<◌}
-use native.Mathlib.Omega.{arith}
-use lib.ListN.{length, length-append}
+use Rattle.std.proofs.Common.{◌≡◌, refl, sym, ap, ◌∙◌, subst, ◌⊎◌, inl, inr, List, [], ◌∷◌, ◌++◌, ℕ, zero, suc, ◌+◌, ◌-◌, ◌≤◌, ◌<◌, arith, length, length-append}
 use Rattle.lists.specs.Members.{Mem, here, there, NoDup}
 use Rattle.lists.specs.Words.{at, values_from}
 use Rattle.lists.proofs.Tests.{Compared, equal, other, compare}

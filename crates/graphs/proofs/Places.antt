@@ -1,12 +1,8 @@
 -- A depth-first search without recursion: the place it has come to, and what is left of the recursive search from there.
 -- A place is the vertex being scanned, the edges of it passed and ahead, and a frame for each vertex on the path from the start. Each of
 -- the three moves keeps what is left to do equal to the whole search.
-use mathlib.Core.Path.{◌≡◌, refl, sym, ap, ◌∙◌, subst}
-use mathlib.Core.Bool.{Bool, true, false}
-use mathlib.Core.List.{List, [], ◌∷◌, reverse_aux, IsSuffix, suffix_refl, IsSuffix-trans}
-use Prim.Native.Nat.{ℕ, ◌≤◌, suc}
-use native.Mathlib.Omega.{arith}
-use lib.ListN.{length, length-append}
+use Rattle.std.proofs.Common.{◌≡◌, refl, sym, ap, ◌∙◌, subst, Bool, true, false, List, [], ◌∷◌, ℕ, ◌≤◌, suc, arith, length, length-append}
+use mathlib.Core.List.{reverse_aux, IsSuffix, suffix_refl, IsSuffix-trans}
 use Rattle.lists.specs.Members.{Mem, here, there, NoDup, memb}
 use Rattle.lists.proofs.Members.{each-cons, mem-left, memb-false, mem-rest, mem-done, mem-nil}
 use Rattle.graphs.specs.Nodes.{Vertex}

@@ -1,11 +1,7 @@
 -- A breadth-first search as a queue runs it: the vertices that wait, the one being scanned, and what is left of the search from there.
 -- Each edge traversed and each scan ended keeps what is left to do equal to the whole search.
-use mathlib.Core.Path.{◌≡◌, refl, sym, ap, ◌∙◌}
-use mathlib.Core.Bool.{Bool, true, false}
-use mathlib.Core.List.{List, [], ◌∷◌, ◌++◌, IsSuffix, suffix_refl, IsSuffix-trans}
-use Prim.Native.Nat.{ℕ, zero, suc, ◌+◌, ◌≤◌}
-use native.Mathlib.Omega.{arith}
-use lib.ListN.{length}
+use Rattle.std.proofs.Common.{◌≡◌, refl, sym, ap, ◌∙◌, Bool, true, false, List, [], ◌∷◌, ◌++◌, ℕ, zero, suc, ◌+◌, ◌≤◌, arith, length}
+use mathlib.Core.List.{IsSuffix, suffix_refl, IsSuffix-trans}
 use Rattle.lists.specs.Members.{here, memb}
 use Rattle.lists.proofs.Members.{memb-true, memb-false}
 use Rattle.graphs.specs.Graph.{Graph, Closed}

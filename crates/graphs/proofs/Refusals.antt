@@ -1,14 +1,7 @@
 -- A call that meets no condition: each of its conditions is false.
 -- The number of a list of conditions is 0 only where the first is false and the number of the others is 0.
-use mathlib.Core.Path.{◌≡◌, refl, sym, ap, ◌∙◌}
-use mathlib.Core.Logic.{◌↔◌, ◌≢◌}
-use mathlib.Core.Bool.{Bool, true, false, cond, not, ◌||◌}
-use mathlib.Core.List.{List, [], ◌∷◌, ◌++◌}
-use Prim.Native.Nat.{ℕ, zero, suc, ◌≤◌, ◌<◌}
-use native.Mathlib.Omega.{arith}
-use lib.ListN.{length}
-use lib.Dec.{ltb}
-use borrow.Author.Tests.{eqb-false, ltb-false}
+use Rattle.std.proofs.Common.{◌≡◌, refl, sym, ap, ◌∙◌, ◌↔◌, ◌≢◌, Bool, true, false, cond, not, ◌||◌, List, [], ◌∷◌, ◌++◌, ℕ, zero, suc, ◌≤◌, ◌<◌, arith, length, ltb, ltb-false}
+use borrow.Author.Tests.{eqb-false}
 use Rattle.lists.proofs.Tests.{clash, neither}
 use Rattle.graphs.specs.Nodes.{is_vertex}
 use Rattle.graphs.specs.Refusals.{Refusal, refuse, first_of, unless_refused, sizes_out, vertices_out, edges_out, vertex_out, after_out, tail_out, list_out, blanks_out, start_blank, Lent, lent, short, image_areas, sound, image_number, search_number}

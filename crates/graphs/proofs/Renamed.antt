@@ -1,15 +1,9 @@
 -- The depth-first searches of two graphs whose edges correspond by a new number for each are the same, up to those numbers; so are those
 -- of an image and of its array form.
 -- Renaming changes no label, so both searches ask the same of each edge; by recursion on the fuel and, inside, on the edges.
-use mathlib.Core.Path.{◌≡◌, refl, sym, ap, ◌∙◌, subst}
-use mathlib.Core.Logic.{◌⊎◌, inl, inr}
-use mathlib.Core.Bool.{Bool, true, false, cond, ◌&&◌}
-use mathlib.Core.List.{List, [], ◌∷◌, ◌++◌, map, reverse_aux, reverse}
-use Prim.Native.Nat.{ℕ, zero, suc, max, ◌+◌, ◌≤◌, ◌<◌}
-use native.Mathlib.Omega.{arith}
-use lib.Dec.{eqb}
-use lib.ListN.{drop, length-map}
-use borrow.Author.Tests.{eq-eqb, ne_eqb}
+use Rattle.std.proofs.Common.{◌≡◌, refl, sym, ap, ◌∙◌, subst, ◌⊎◌, inl, inr, Bool, true, false, cond, ◌&&◌, List, [], ◌∷◌, ◌++◌, map, reverse, ℕ, zero, suc, max, ◌+◌, ◌≤◌, ◌<◌, arith, eqb, drop, eq-eqb, ne_eqb}
+use mathlib.Core.List.{reverse_aux}
+use lib.ListN.{length-map}
 use Rattle.lists.specs.Members.{Mem, here, there, memb, NoDup, cons_if}
 use Rattle.lists.specs.Counts.{bump, rank}
 use Rattle.lists.specs.Words.{at, filled}

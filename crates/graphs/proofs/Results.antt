@@ -1,14 +1,7 @@
 -- The marks that a search leaves, kept store by store; the tally.
 -- A label's store makes the filled area of one label more; a rank of 0 is an unlabelled vertex.
-use mathlib.Core.Path.{◌≡◌, refl, sym, ap, ◌∙◌, subst}
-use mathlib.Core.Logic.{◌↔◌}
-use mathlib.Core.Bool.{Bool, true, false, cond, not, ◌&&◌, ◌||◌}
-use mathlib.Core.List.{List, [], ◌∷◌, ◌++◌}
-use Prim.Native.Nat.{ℕ, suc, ◌+◌, ◌%◌, ◌≤◌, ◌<◌}
-use native.Mathlib.Omega.{arith}
-use lib.ListN.{length}
-use lib.Dec.{eqb, leb}
-use borrow.Author.Tests.{le-leb, lt-leb, ne_eqb, eqb-false}
+use Rattle.std.proofs.Common.{◌≡◌, refl, sym, ap, ◌∙◌, subst, ◌↔◌, Bool, true, false, cond, not, ◌&&◌, ◌||◌, List, [], ◌∷◌, ◌++◌, ℕ, suc, ◌+◌, ◌%◌, ◌≤◌, ◌<◌, arith, length, eqb, leb, le-leb, ne_eqb}
+use borrow.Author.Tests.{lt-leb, eqb-false}
 use Rattle.lists.specs.Members.{Mem, memb, cons_if}
 use Rattle.lists.specs.Counts.{bump, rank}
 use Rattle.lists.specs.Words.{at, put, filled}

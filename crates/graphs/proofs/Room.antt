@@ -1,10 +1,7 @@
 -- The events of either search of a sound profile fit 6 (n + m) words.
 -- A depth-first search has two events for each vertex labelled and each edge met, a breadth-first one no more; met are at most m.
-use mathlib.Core.Path.{◌≡◌, refl}
-use mathlib.Core.List.{List, [], ◌∷◌, reverse}
-use Prim.Native.Nat.{ℕ, ◌+◌, ◌*◌, ◌≤◌}
-use native.Mathlib.Omega.{arith}
-use lib.ListN.{length, length-reverse}
+use Rattle.std.proofs.Common.{◌≡◌, refl, List, [], ◌∷◌, reverse, ℕ, ◌+◌, ◌*◌, ◌≤◌, arith, length}
+use lib.ListN.{length-reverse}
 use Rattle.graphs.specs.Nodes.{Vertex}
 use Rattle.graphs.specs.Graph.{Graph, Closed, Reached, met}
 use Rattle.graphs.specs.Events.{Event, event, History, words, labelled}

@@ -1,6 +1,6 @@
 -- The tables of rows, each in one theorem.
 -- By computation on the definitions.
-use mathlib.Core.Path.{refl}
+use Rattle.std.proofs.Common.{refl}
 use Rattle.lists.specs.Rows.{AllAnswered}
 use Rattle.lists.specs.Words.{at}
 use Rattle.graphs.specs.Search.{walk_edges, search, depth_first, traverse_all, drain, breadth_first}

@@ -1,14 +1,8 @@
 -- What the conditions of a sound image come to, as other proofs use it, and that the tests give it.
 -- Lists whose references are counted once each in all lists are chains that end, share nothing, and have an owner each.
-use mathlib.Core.Path.{◌≡◌, refl, sym, ap, ◌∙◌, subst}
-use mathlib.Core.Logic.{◌⊎◌, inl, inr}
-use mathlib.Core.Bool.{Bool, true, false, cond}
-use mathlib.Core.List.{List, [], ◌∷◌, ◌++◌, reverse_aux}
-use Prim.Native.Nat.{ℕ, zero, suc, ◌+◌, ◌-◌, ◌≤◌, ◌<◌}
-use native.Mathlib.Omega.{arith}
-use lib.ListN.{length, get_or}
-use lib.Dec.{eqb, ltb, leb}
-use borrow.Author.Tests.{ltb-false, le-leb, lt-leb, not-false}
+use Rattle.std.proofs.Common.{◌≡◌, refl, sym, ap, ◌∙◌, subst, ◌⊎◌, inl, inr, Bool, true, false, cond, List, [], ◌∷◌, ◌++◌, ℕ, zero, suc, ◌+◌, ◌-◌, ◌≤◌, ◌<◌, arith, length, get_or, eqb, ltb, leb, ltb-false, le-leb}
+use mathlib.Core.List.{reverse_aux}
+use borrow.Author.Tests.{lt-leb, not-false}
 use Rattle.lists.specs.Members.{Mem, here, there, NoDup, memb}
 use Rattle.lists.specs.Counts.{count_in}
 use Rattle.lists.specs.Words.{at}

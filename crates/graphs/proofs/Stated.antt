@@ -1,13 +1,6 @@
 -- An image and its stated words alone: the same numbers, the same lists, the same searches.
 -- Where every after word is a link, a list never leaves the stated words; where one is none, the call is refused before lists are looked at.
-use mathlib.Core.Path.{◌≡◌, refl, sym, ap, ◌∙◌, subst}
-use mathlib.Core.Bool.{Bool, true, false, cond, not, ◌||◌}
-use mathlib.Core.List.{List, [], ◌∷◌, ◌++◌, map}
-use Prim.Native.Nat.{ℕ, zero, suc, ◌+◌, ◌-◌, ◌≤◌, ◌<◌}
-use native.Mathlib.Omega.{arith}
-use lib.ListN.{length, take, length-take}
-use lib.Dec.{eqb, ltb}
-use borrow.Author.Tests.{ltb-true, ltb-false, lt-ltb, le-ltb}
+use Rattle.std.proofs.Common.{◌≡◌, refl, sym, ap, ◌∙◌, subst, Bool, true, false, cond, not, ◌||◌, List, [], ◌∷◌, ◌++◌, map, ℕ, zero, suc, ◌+◌, ◌-◌, ◌≤◌, ◌<◌, arith, length, take, length-take, eqb, ltb, ltb-true, ltb-false, lt-ltb, le-ltb}
 use Rattle.lists.specs.Members.{Mem, here, there}
 use Rattle.lists.specs.Counts.{count_in, all_to}
 use Rattle.lists.specs.Words.{at}

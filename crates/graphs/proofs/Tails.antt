@@ -1,9 +1,6 @@
 -- Tails bent along the path of a depth-first search: the tail of each tree edge under way holds a word of its frame, for example the parent.
 -- An edge stands on one list, so only the tails of edges out of vertices on the path are bent.
-use mathlib.Core.Path.{◌≡◌, refl, sym, ◌∙◌, subst}
-use mathlib.Core.List.{List, [], ◌∷◌}
-use Prim.Native.Nat.{ℕ}
-use lib.ListN.{length}
+use Rattle.std.proofs.Common.{◌≡◌, refl, sym, ◌∙◌, subst, List, [], ◌∷◌, ℕ, length}
 use Rattle.lists.specs.Members.{Mem, here, there}
 use Rattle.lists.specs.Words.{at, put}
 use Rattle.lists.proofs.Words.{length-put, at_other}

@@ -1,13 +1,7 @@
 -- The tree edges of a depth-first search lead to reached vertices, and never to the start; so a parent word is 0 for the start, its
 -- children and the unreached, and an increment is 0 exactly for the unreached.
 -- Along the derivation: a tree edge leads to a vertex not labelled before, and the start is labelled first.
-use mathlib.Core.Path.{◌≡◌, refl, sym, ap, ◌∙◌, subst}
-use mathlib.Core.Bool.{Bool, true, false, cond, ◌&&◌}
-use mathlib.Core.List.{List, [], ◌∷◌, reverse}
-use Prim.Native.Nat.{ℕ, ◌≤◌}
-use native.Mathlib.Omega.{arith}
-use lib.Dec.{eqb}
-use borrow.Author.Tests.{ne_eqb}
+use Rattle.std.proofs.Common.{◌≡◌, refl, sym, ap, ◌∙◌, subst, Bool, true, false, cond, ◌&&◌, List, [], ◌∷◌, reverse, ℕ, ◌≤◌, arith, eqb, ne_eqb}
 use Rattle.lists.specs.Members.{Mem, here, there}
 use Rattle.lists.specs.Counts.{rank}
 use Rattle.lists.proofs.Tests.{clash}

@@ -1,13 +1,6 @@
 -- What a search does with vertices labelled beforehand: no event names one, and every edge to one is nontree.
 -- Along the derivation: a vertex is searched only where it was not labelled.
-use mathlib.Core.Path.{◌≡◌, refl, sym, ap, ◌∙◌, subst}
-use mathlib.Core.Logic.{inl, inr, ◌⊎◌}
-use mathlib.Core.Bool.{Bool, true, false}
-use mathlib.Core.List.{List, [], ◌∷◌, reverse}
-use Prim.Native.Nat.{ℕ, suc}
-use native.Mathlib.Omega.{arith}
-use lib.Dec.{eqb}
-use borrow.Author.Tests.{ne_eqb}
+use Rattle.std.proofs.Common.{◌≡◌, refl, sym, ap, ◌∙◌, subst, inl, inr, ◌⊎◌, Bool, true, false, List, [], ◌∷◌, reverse, ℕ, suc, arith, eqb, ne_eqb}
 use Rattle.lists.specs.Members.{Mem, here, cons_if, without}
 use Rattle.lists.specs.Counts.{bump, count_in}
 use Rattle.lists.proofs.Tests.{clash}

@@ -66,6 +66,7 @@ fn list_out(g: &Image) -> bool
     requires { Chained g.now.n g.now.m g.now.after.now }
     ensures { (tail : List ℕ) → result ≡ list_out (image g.now.n g.now.m g.now.after.now tail) }
 {
+    // A flag is 0 or 1, as `flag_all` states it.
     let mut flags = [0u8; 4000];
     let mut count: u16 = 0;
     for first in &g.after[..g.n as usize] {

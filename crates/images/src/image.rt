@@ -4,6 +4,7 @@ ghost use Rattle.graphs.specs.Refusals.{short, image_areas};
 ghost use Rattle.images.specs.Checking.{image_of};
 
 // n vertices and m edges; the after word of each node, and the tail of each edge. All of them are untrusted.
+// Lists are words of lent areas, as C lends them.
 #[derive(Clone, Copy)]
 pub struct Image<'a> {
     pub n: u16,

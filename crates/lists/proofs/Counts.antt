@@ -1,13 +1,6 @@
 -- Laws of counts, sums and ranks.
 -- By recursion on the list, with a member taken out of it where two lists are compared.
-use mathlib.Core.Path.{◌≡◌, refl, sym, ap, ◌∙◌, subst}
-use mathlib.Core.Bool.{Bool, true, false, not, cond, ◌||◌, ◌&&◌}
-use mathlib.Core.List.{List, [], ◌∷◌, ◌++◌}
-use Prim.Native.Nat.{ℕ, zero, suc, ◌+◌, ◌-◌, ◌≤◌, ◌<◌}
-use native.Mathlib.Omega.{arith}
-use lib.ListN.{length}
-use lib.Dec.{eqb}
-use borrow.Author.Tests.{eqb-true, eq-eqb, ne_eqb}
+use Rattle.std.proofs.Common.{◌≡◌, refl, sym, ap, ◌∙◌, subst, Bool, true, false, not, cond, ◌||◌, ◌&&◌, List, [], ◌∷◌, ◌++◌, ℕ, zero, suc, ◌+◌, ◌-◌, ◌≤◌, ◌<◌, arith, length, eqb, eqb-true, eq-eqb, ne_eqb}
 use Rattle.lists.specs.Members.{Mem, here, there, memb, NoDup, Same, without}
 use Rattle.lists.specs.Counts.{bump, count_in, sum_of, rank, all_to}
 use Rattle.lists.proofs.Tests.{clash, and-true, both, zero_test, Compared, equal, other, compare}

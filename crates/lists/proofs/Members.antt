@@ -1,14 +1,8 @@
 -- Laws of membership: its test, appended and reversed lists, lists in which nothing stands twice, the pigeonhole.
 -- By recursion on the list or on where the member stands.
-use mathlib.Core.Path.{◌≡◌, refl, sym, ap, ◌∙◌, subst}
-use mathlib.Core.Logic.{◌≢◌, ◌⊎◌, inl, inr}
-use mathlib.Core.Bool.{Bool, true, false, not, ◌||◌}
-use mathlib.Core.List.{List, [], ◌∷◌, ◌++◌, reverse_aux, reverse}
-use Prim.Native.Nat.{ℕ, zero, suc, ◌+◌, ◌≤◌, ◌<◌}
-use native.Mathlib.Omega.{arith}
-use lib.ListN.{length}
-use lib.Dec.{eqb}
-use borrow.Author.Tests.{eqb-true, eqb-false, eq-eqb, ne_eqb}
+use Rattle.std.proofs.Common.{◌≡◌, refl, sym, ap, ◌∙◌, subst, ◌≢◌, ◌⊎◌, inl, inr, Bool, true, false, not, ◌||◌, List, [], ◌∷◌, ◌++◌, reverse, ℕ, zero, suc, ◌+◌, ◌≤◌, ◌<◌, arith, length, eqb, eqb-true, eq-eqb, ne_eqb}
+use mathlib.Core.List.{reverse_aux}
+use borrow.Author.Tests.{eqb-false}
 use Rattle.std.specs.List.{list_any}
 use Rattle.lists.specs.Members.{Mem, here, there, memb, NoDup, Same, cons_if, without}
 use Rattle.lists.proofs.Tests.{clash, or-true}

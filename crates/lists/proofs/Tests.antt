@@ -1,11 +1,7 @@
 -- Tests taken apart and put together.
 -- By cases on their values.
-use mathlib.Core.Path.{◌≡◌, refl, sym}
-use mathlib.Core.Bool.{Bool, true, false, ◌&&◌, ◌||◌}
-use Prim.Native.Nat.{ℕ, ◌<◌}
-use native.Mathlib.Omega.{arith}
-use lib.Dec.{eqb}
-use borrow.Author.Tests.{eqb-true, eqb-false, ne_eqb}
+use Rattle.std.proofs.Common.{◌≡◌, refl, sym, Bool, true, false, ◌&&◌, ◌||◌, ℕ, ◌<◌, arith, eqb, eqb-true, ne_eqb}
+use borrow.Author.Tests.{eqb-false}
 
 pub clash : {A : Type 0} → ◌≡◌ {A = Bool} true false → A
 clash e = absurd (let z : ◌≡◌ {A = ℕ} 0 1 = cc in omega arith)

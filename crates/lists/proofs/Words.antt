@@ -1,16 +1,8 @@
 -- Laws of words in areas: what a store changes, what it leaves, and areas that are filled.
 -- From the laws of stores into lists, at the place of a node.
-use mathlib.Core.Path.{◌≡◌, refl, sym, ap, ◌∙◌}
-use mathlib.Core.Logic.{◌≢◌}
-use mathlib.Core.Bool.{Bool, true, false, cond}
-use mathlib.Core.List.{List, [], ◌∷◌, ◌++◌, append_assoc}
-use Prim.Native.Nat.{ℕ, zero, suc, ◌+◌, ◌-◌, ◌≤◌, ◌<◌}
-use native.Mathlib.Omega.{arith}
-use native.Mathlib.Nat.{add-zero}
-use lib.Dec.{eqb, ltb}
-use lib.ListN.{length, get_or, set, take, drop, replicate, take-append-drop, length-set, length-append, length-take, length-drop, length-replicate, get_or-append}
-use lib.Seq.{get_or_at, set-set, set_comm, set-get_or, get_or-set_same, get_or-set_other, set-append_left, set_at, set_out, take_at, drop_at, take-suc, drop-cons, append_snoc, take-set-lt, take-set-le, drop-set-lt, take-append-add, drop-append-add, drop-append_seam, drop-drop, take-nil, get_or-take, length-take-le}
-use borrow.Author.Tests.{ltb-true, ltb-false, ne_eqb}
+use Rattle.std.proofs.Common.{◌≡◌, refl, sym, ap, ◌∙◌, ◌≢◌, Bool, true, false, cond, List, [], ◌∷◌, ◌++◌, append_assoc, ℕ, zero, suc, ◌+◌, ◌-◌, ◌≤◌, ◌<◌, arith, add-zero, eqb, ltb, length, get_or, set, take, drop, replicate, take-append-drop, length-set, length-append, length-take, length-drop, set-set, get_or-set_same, get_or-set_other, take_at, drop_at, take-suc, drop-cons, drop-set-lt, drop-drop, get_or-take, length-take-le, ltb-true, ltb-false, ne_eqb}
+use lib.ListN.{length-replicate, get_or-append}
+use lib.Seq.{get_or_at, set_comm, set-get_or, set-append_left, set_at, set_out, append_snoc, take-set-lt, take-set-le, take-append-add, drop-append-add, drop-append_seam, take-nil}
 use Rattle.lists.specs.Words.{at, put, overlay, pasted, cleared, values_from, filled}
 use Rattle.lists.proofs.Tests.{Compared, equal, other, compare}
 

@@ -16,6 +16,7 @@ pub struct Number {
 }
 
 // How many digits x has: one more than the times it can be divided by ten before it is below ten.
+// By division, as the formula is stated.
 fn decimal_length(x: u16) -> usize
     ensures { result ≡ decimal_length x }
 {
@@ -29,6 +30,7 @@ fn decimal_length(x: u16) -> usize
 }
 
 // Writes x into the area from place at on, where there is room for it, and gives the place past it; else writes nothing and gives at.
+// The call cannot be refused: without room its answer is at, as `past_at` says.
 pub fn write_number(x: u16, area: &mut [u8], at: usize) -> usize
     ensures next { result ≡ past_at (written x) at area.old }
     ensures words { area.new ≡ put_at (written x) at area.old }
@@ -65,6 +67,7 @@ pub fn read_number(text: &[u8], at: usize) -> Option<Number>
     }
     let digits = &rest[..count];
     let mut value: u32 = 0;
+    // By hand: `parse` would ask for a `str`, and the digits are tested already.
     for digit in digits {
         value = value * 10 + u32::from(*digit - b'0');
     }

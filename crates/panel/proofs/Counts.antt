@@ -1,12 +1,6 @@
 -- The figure is the number of cards accepted since the last shift start.
 -- By induction on the log: without a shift start each card adds 1 to the figure; a shift start forgets the figure before it.
-use mathlib.Core.Path.{◌≡◌, refl, sym, ap, ◌∙◌}
-use mathlib.Core.Logic.{◌≢◌, inl, inr}
-use mathlib.Core.Bool.{Bool, true, false, ◌||◌}
-use mathlib.Core.List.{List, [], ◌∷◌}
-use Prim.Native.Nat.{ℕ, zero, suc, ◌+◌}
-use native.Mathlib.Omega.{arith}
-use lib.Dec.{eqb}
+use Rattle.std.proofs.Common.{◌≡◌, refl, sym, ap, ◌∙◌, ◌≢◌, inl, inr, Bool, true, false, ◌||◌, List, [], ◌∷◌, ℕ, zero, suc, ◌+◌, arith, eqb}
 use Rattle.lists.specs.Counts.{bump}
 use Rattle.lists.proofs.Tests.{clash, neither, or-none, Compared, equal, other, compare}
 use Rattle.folding.specs.Machine.{accepted}

@@ -1,11 +1,7 @@
 -- A counted card is a good card.
 -- A card's number is 0, so its state was taken; of line B that means it had ended (folding's CardClaim, through the tie of the calls to line B
 -- as defined). Accepting reads no links or marks.
-use mathlib.Core.Path.{◌≡◌, refl, sym, ap, ◌∙◌, subst}
-use mathlib.Core.Bool.{Bool, true, false, cond}
-use mathlib.Core.List.{List, [], ◌∷◌}
-use Prim.Native.Nat.{ℕ}
-use borrow.Author.Tests.{eqb-true}
+use Rattle.std.proofs.Common.{◌≡◌, refl, sym, ap, ◌∙◌, subst, Bool, true, false, cond, List, [], ◌∷◌, ℕ, eqb-true}
 use Rattle.lists.proofs.Tests.{clash}
 use Rattle.graphs.specs.Events.{words}
 use Rattle.graphs.specs.Image.{Image, SameLinks}

@@ -1,13 +1,7 @@
 -- The number of accepting a state, from that of its first five conditions; and what is left by it.
 -- Once those five are false the phase is 1 to 6, and the three of accepting decide.
-use mathlib.Core.Path.{◌≡◌, refl, sym, ap, ◌∙◌}
-use mathlib.Core.Logic.{◌≢◌}
-use mathlib.Core.Bool.{true, ◌||◌}
-use mathlib.Core.List.{List, [], ◌∷◌}
-use Prim.Native.Nat.{ℕ, zero, suc, ◌+◌, ◌≤◌, ◌<◌}
-use native.Mathlib.Omega.{arith}
-use lib.Dec.{eqb, ltb, leb}
-use borrow.Author.Tests.{eq-eqb, ne_eqb, le-leb, lt-leb, ltb-true, leb-true, leb-false}
+use Rattle.std.proofs.Common.{◌≡◌, refl, sym, ap, ◌∙◌, ◌≢◌, true, ◌||◌, List, [], ◌∷◌, ℕ, zero, suc, ◌+◌, ◌≤◌, ◌<◌, arith, eqb, ltb, leb, eq-eqb, ne_eqb, le-leb, ltb-true, leb-true, leb-false}
+use borrow.Author.Tests.{lt-leb}
 use Rattle.lists.proofs.Tests.{both}
 use Rattle.graphs.specs.Refusals.{Refusal, refuse, first_of, figure_out}
 use Rattle.graphs.proofs.Refusals.{all-false}

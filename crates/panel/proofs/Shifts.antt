@@ -1,7 +1,5 @@
 -- The last card of a shift, where accepting it is refused: the record is as it was.
-use Rattle.std.proofs.Common.{◌≡◌, sym, ap, ◌∙◌, ℕ, zero, suc}
-use mathlib.Core.Logic.{◌≢◌}
-use mathlib.Core.Path.{refl}
+use Rattle.std.proofs.Common.{◌≡◌, sym, ap, ◌∙◌, ℕ, zero, suc, ◌≢◌, refl}
 use Rattle.states.specs.declared.values.State.{State}
 use Rattle.panel.specs.declared.Panel.{Panel}
 use Rattle.panel.specs.Panel.{Accepted, ShiftEnded}

@@ -1,10 +1,7 @@
 -- The figure that is printed of a text.
 -- What is printed is that of the depth-first search, whose figure is the one by paths.
-use mathlib.Core.Path.{◌≡◌, sym, ap, ◌∙◌}
-use mathlib.Core.List.{List, []}
+use Rattle.std.proofs.Common.{◌≡◌, sym, ap, ◌∙◌, List, [], ℕ, length, take, drop}
 use mathlib.Core.Option.{Option, none, some}
-use Prim.Native.Nat.{ℕ}
-use lib.ListN.{length, take, drop}
 use lib.Seq.{take-append_seam}
 use Rattle.lists.specs.Words.{overlay}
 use Rattle.graphs.specs.Claims.{Ready}

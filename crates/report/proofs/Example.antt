@@ -1,12 +1,6 @@
 -- Document 01's printed examples and document 02's shared file: by computation, numbers from the claim of what is written.
-use mathlib.Core.Path.{◌≡◌, refl, ap, ◌∙◌}
-use mathlib.Core.Bool.{true}
-use mathlib.Core.List.{List, [], ◌∷◌, ◌++◌}
+use Rattle.std.proofs.Common.{◌≡◌, refl, ap, ◌∙◌, true, List, [], ◌∷◌, ◌++◌, ℕ, ◌+◌, arith, ltb, ltb-true}
 use mathlib.Core.Option.{some}
-use Prim.Native.Nat.{ℕ, ◌+◌}
-use native.Mathlib.Omega.{arith}
-use lib.Dec.{ltb}
-use borrow.Author.Tests.{ltb-true}
 use Rattle.lists.specs.Words.{at}
 use Rattle.texts.specs.Text.{listing_of, head_at, lines_at, line_at, field_at}
 use Rattle.texts.specs.Loading.{lines_out}

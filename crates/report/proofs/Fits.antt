@@ -1,10 +1,5 @@
 -- What is printed is in the output area, whatever the text or the number and the areas.
-use mathlib.Core.Path.{◌≡◌, refl, ap, ◌∙◌}
-use mathlib.Core.Bool.{Bool, true, false, cond}
-use mathlib.Core.List.{List, [], ◌∷◌}
-use Prim.Native.Nat.{ℕ, ◌≤◌}
-use native.Mathlib.Omega.{arith}
-use lib.ListN.{length, drop, length-append}
+use Rattle.std.proofs.Common.{◌≡◌, refl, ap, ◌∙◌, Bool, true, false, cond, List, [], ◌∷◌, ℕ, ◌≤◌, arith, length, drop, length-append}
 use Rattle.lists.specs.Words.{overlay}
 use Rattle.graphs.specs.Refusals.{unless_refused, lent, short}
 use Rattle.texts.specs.Loading.{Reading, refused, loaded}

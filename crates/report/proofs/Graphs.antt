@@ -1,13 +1,7 @@
 -- The walk of the image that a text leaves in two areas is that of the graph that the text says; so is what is printed of it.
 -- The lists and targets of the two graphs agree, so keeping every edge's number is a renaming of the one to the other.
-use mathlib.Core.Path.{◌≡◌, refl, sym, ap, ◌∙◌, subst}
-use mathlib.Core.Bool.{Bool, false, cond, not, ◌||◌}
-use mathlib.Core.List.{List, [], ◌∷◌, ◌++◌, map, reverse}
-use Prim.Native.Nat.{ℕ, zero, suc, ◌+◌, ◌-◌, ◌*◌, ◌≤◌}
-use native.Mathlib.Omega.{arith}
-use lib.ListN.{length, take, drop, length-append, length-drop, length-map, length-reverse, get_or-append}
-use lib.Seq.{take_at}
-use borrow.Author.Tests.{le-ltb}
+use Rattle.std.proofs.Common.{◌≡◌, refl, sym, ap, ◌∙◌, subst, Bool, false, cond, not, ◌||◌, List, [], ◌∷◌, ◌++◌, map, reverse, ℕ, zero, suc, ◌+◌, ◌-◌, ◌*◌, ◌≤◌, arith, length, take, drop, length-append, length-drop, take_at, le-ltb}
+use lib.ListN.{length-map, length-reverse, get_or-append}
 use Rattle.lists.specs.Members.{Mem, here, there}
 use Rattle.lists.specs.Counts.{sum_of}
 use Rattle.lists.specs.Words.{at, overlay}

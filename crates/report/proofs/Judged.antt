@@ -1,14 +1,8 @@
 -- When a text is refused, with areas as long as stated and with short ones: as the reader refuses it, into these areas or into no words.
 -- Areas of 5,000 and 4,000 words hold every profile within the limits; no words hold none.
-use mathlib.Core.Path.{◌≡◌, refl, sym, ap, ◌∙◌}
-use mathlib.Core.Bool.{Bool, true, false, cond, not, ◌||◌}
-use mathlib.Core.List.{List, [], ◌∷◌}
+use Rattle.std.proofs.Common.{◌≡◌, refl, sym, ap, ◌∙◌, Bool, true, false, cond, not, ◌||◌, List, [], ◌∷◌, ℕ, suc, ◌+◌, ◌≤◌, arith, eqb, ltb, length, ltb-false, lt-ltb, le-ltb}
 use mathlib.Core.Option.{Option, none, some}
-use Prim.Native.Nat.{ℕ, suc, ◌+◌, ◌≤◌}
-use native.Mathlib.Omega.{arith}
-use lib.Dec.{eqb, ltb}
-use lib.ListN.{length}
-use borrow.Author.Tests.{eqb-false, ltb-false, lt-ltb, le-ltb}
+use borrow.Author.Tests.{eqb-false}
 use Rattle.lists.proofs.Tests.{neither}
 use Rattle.graphs.specs.Refusals.{refuse, first_of, Lent, lent, short, vertices_out, edges_out, vertex_out, text_out}
 use Rattle.graphs.proofs.Refusals.{long}

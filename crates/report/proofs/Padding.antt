@@ -1,13 +1,7 @@
 -- Texts that differ in padding only are walked or refused alike: a text is reported by its length and by what it says.
 -- One that is walked has 4,000 references at most, so no padding makes it too long.
-use mathlib.Core.Path.{◌≡◌, refl, ap, ◌∙◌, sym}
-use mathlib.Core.Bool.{Bool, true, false, cond}
-use mathlib.Core.List.{List, [], ◌∷◌, ◌++◌}
+use Rattle.std.proofs.Common.{◌≡◌, refl, ap, ◌∙◌, sym, Bool, true, false, cond, List, [], ◌∷◌, ◌++◌, ℕ, zero, suc, ◌≤◌, arith, length, ltb-false}
 use mathlib.Core.Option.{Option, none, some}
-use Prim.Native.Nat.{ℕ, zero, suc, ◌≤◌}
-use native.Mathlib.Omega.{arith}
-use lib.ListN.{length}
-use borrow.Author.Tests.{ltb-false}
 use Rattle.graphs.specs.Refusals.{refuse, Lent, short, size_refusals, vertex_out, text_out}
 use Rattle.graphs.proofs.Refusals.{all-false}
 use Rattle.numbers.specs.Padding.{unpad}

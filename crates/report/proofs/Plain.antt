@@ -1,10 +1,6 @@
 -- What is printed has no padding, of any text on any areas, and of any number.
 -- Its lines are names and rows of numbers, and no number is written with padding.
-use mathlib.Core.Path.{◌≡◌, refl, sym, ap, ◌∙◌}
-use mathlib.Core.Bool.{false}
-use mathlib.Core.List.{List, [], ◌∷◌, ◌++◌, reverse, append_assoc, append-nil}
-use Prim.Native.Nat.{ℕ}
-use lib.ListN.{length, drop}
+use Rattle.std.proofs.Common.{◌≡◌, refl, sym, ap, ◌∙◌, false, List, [], ◌∷◌, ◌++◌, reverse, append_assoc, append-nil, ℕ, length, drop}
 use lib.Seq.{take-append_seam}
 use Rattle.graphs.specs.Graph.{Graph}
 use Rattle.graphs.specs.Events.{Event, event, code, History}

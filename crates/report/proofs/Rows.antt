@@ -1,12 +1,8 @@
 -- Bytes printed one behind the other, and the lines of events: how they go on.
-use mathlib.Core.Path.{◌≡◌, refl, sym, ap, ◌∙◌, subst}
-use mathlib.Core.List.{List, [], ◌∷◌, ◌++◌, append_assoc, append-nil}
-use Prim.Native.Nat.{ℕ, zero, suc, ◌+◌, ◌*◌, ◌≤◌, ◌<◌}
-use native.Mathlib.Omega.{arith}
+use Rattle.std.proofs.Common.{◌≡◌, refl, sym, ap, ◌∙◌, subst, List, [], ◌∷◌, ◌++◌, append_assoc, append-nil, ℕ, zero, suc, ◌+◌, ◌*◌, ◌≤◌, ◌<◌, arith, length, get_or, set, take, drop, replicate, length-append, le-leb, lt-ltb, le-ltb}
 use Rattle.std.proofs.lemmas.List.{nil_from_length}
-use lib.ListN.{length, get_or, set, take, drop, replicate, length-append, length-replicate}
+use lib.ListN.{length-replicate}
 use lib.Seq.{take-append_seam, append_snoc}
-use borrow.Author.Tests.{le-leb, lt-ltb, le-ltb}
 use Rattle.lists.specs.Words.{overlay, pasted}
 use Rattle.lists.proofs.Words.{pasted-front, pasted-next, pasted-pasted, length-pasted}
 use Rattle.graphs.specs.Events.{Event, event, code, words}

@@ -1,13 +1,9 @@
 -- The whole walk of a profile: an opening that is taken, and one run of 9,000 moves or more on the part behind the opening's event.
 -- The two are line B of folding/ with one call, which has ended; so its events, labels, links and moves are those of the depth-first search.
-use mathlib.Core.Path.{◌≡◌, refl, sym, ap, ◌∙◌, subst}
-use mathlib.Core.Logic.{inl}
-use mathlib.Core.List.{List, [], ◌∷◌, reverse, reverse-reverse}
-use Prim.Native.Nat.{ℕ, suc, ◌+◌, ◌-◌, ◌*◌, ◌≤◌}
-use native.Mathlib.Omega.{arith}
+use Rattle.std.proofs.Common.{◌≡◌, refl, sym, ap, ◌∙◌, subst, inl, List, [], ◌∷◌, reverse, ℕ, suc, ◌+◌, ◌-◌, ◌*◌, ◌≤◌, arith, lit≤, length, drop, length-take, length-drop}
+use mathlib.Core.List.{reverse-reverse}
 use Rattle.std.specs.Prelude.{Some, Result, Ok, Err, IsOk}
-use lib.Dec.{lit≤}
-use lib.ListN.{length, drop, length-take, length-drop, length-reverse}
+use lib.ListN.{length-reverse}
 use borrow.Rule.Slice.PartMut.{mid_of, put_mid}
 use Rattle.lists.specs.Words.{overlay}
 use Rattle.lists.proofs.Words.{length-overlay}

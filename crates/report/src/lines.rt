@@ -1,4 +1,5 @@
 // Printing: the lines of a walk, and of a refusal, as bytes in the output area.
+// By hand and not by Display: each byte of a lent area is promised, at a place of it.
 ghost use Rattle.std.specs.Prelude.{◌≡◌, [], ◌∷◌, ◌++◌, ◌+◌, ◌*◌, ◌≤◌, length, take};
 ghost use Rattle.lists.specs.Words.{overlay, pasted};
 ghost use Rattle.numbers.specs.Decimal.{written};
@@ -74,6 +75,7 @@ pub(crate) fn print_walk(t: Totals, events: &[u16], output: &mut [u8]) -> usize
 
 // Prints the line of a refusal of any number: `refused,`, its number and a line feed, at the front of the output area. It is made aside, so that it is written
 // whole or, refused by 3 where the area is shorter than the line, not at all.
+// The number is any word: C hands one over, and `line_number` holds of each.
 pub fn refusal_line(number: u16, output: &mut [u8]) -> Result<usize, Refusal>
     ensures number { number_in result ≡ line_number number output.old }
     ensures bytes { bytes_in result ≡ line_bytes number output.old }

@@ -10,6 +10,7 @@ use texts::Profile;
 use walkers::{open, run};
 
 // The number of events, the elements reached, the moves made, and circular.
+// Circular stays the number that the state holds: it is printed so.
 #[derive(Clone, Copy)]
 pub struct Totals {
     pub events: usize,

@@ -11,6 +11,7 @@ pub enum Order {
 }
 
 // The call that a word names; any other word names none.
+// An Option: any other word is no fault.
 pub(crate) fn order_of(word: u32) -> Option<Order>
     ensures { (budget : ℕ) (area : List ℕ) → called_by word budget area ≡ called result budget area }
 {

@@ -101,6 +101,7 @@ pub fn replay(
         state: opened.state,
     };
     let mut left = script;
+    // A pattern names the three words.
     while let [word, budget, room, rest @ ..] = left {
         let order = order_of(*word);
         p = perform(order, *budget, *room, p, after, tail, marks, events);

@@ -1,10 +1,7 @@
 -- What a call on a state in words hands back, and what accepting one does.
 -- Fewer than nine words hold no state; else all is what is seen of the reply.
-use mathlib.Core.Path.{◌≡◌, refl, sym, ap, ◌∙◌}
-use mathlib.Core.List.{List}
-use Prim.Native.Nat.{ℕ, ◌≤◌, ◌<◌}
-use lib.ListN.{length}
-use borrow.Author.Tests.{le-leb, lt-leb}
+use Rattle.std.proofs.Common.{◌≡◌, refl, sym, ap, ◌∙◌, List, ℕ, ◌≤◌, ◌<◌, length, le-leb}
+use borrow.Author.Tests.{lt-leb}
 use Rattle.lists.specs.Words.{overlay}
 use Rattle.folding.specs.Calls as calls
 use Rattle.folding.specs.Calls.{Call, ran, taken, refused, refusing, area_of, serve}

@@ -1,5 +1,6 @@
 // The calls of the folded search and of the panel as a controller makes them: a state is nine lent words, the panel is one lent word, and an
 // answer is a number. Each takes any input at all; where it is refused it changes nothing.
+// Answers are numbers: `profile_walker` hands them to C as they are.
 #![tactic(auto)]
 
 mod cards;

@@ -70,6 +70,7 @@ fn hand_back(
 }
 
 // `walkers::step`: one step, and no reason.
+// Step and run differ in their promises; what they share is `hand_back`.
 pub fn step_in_words(
     state: &mut [u16],
     after: &mut [u16],

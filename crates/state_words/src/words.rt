@@ -1,4 +1,5 @@
 // A state as nine words: n, m, start, v, e, f, phase, next, circular.
+// By hand, in the order of the nine words that C hands over.
 ghost use Rattle.std.specs.Prelude.{◌≡◌, ◌≤◌, length};
 ghost use Rattle.lists.specs.Words.{overlay};
 ghost use Rattle.states.specs.Answers.{answer_of};

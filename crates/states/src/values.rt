@@ -17,6 +17,7 @@ pub struct State {
 }
 
 // The six phases, with their numbers (document 01: walking, restoring, ended, winding back, withdrawn, accepted).
+// A state's phase is compared as a number: to convert it, a word that is none of them would have to be refused first.
 #[derive(Clone, Copy, Debug, PartialEq, Eq)]
 pub enum Phase {
     Walking = 1,

@@ -1,14 +1,7 @@
 -- One lent area more: where it is long it adds nothing to a call's number, where it is short the number is 1, 2 or 3.
 -- Only the third condition tests the areas, and a short one makes it true.
-use mathlib.Core.Path.{◌≡◌, refl, sym, ap, ◌∙◌}
-use mathlib.Core.Logic.{◌≢◌}
-use mathlib.Core.Bool.{Bool, true, false, not, ◌||◌}
-use mathlib.Core.List.{List, [], ◌∷◌, ◌++◌}
-use Prim.Native.Nat.{ℕ, ◌+◌, ◌≤◌, ◌<◌}
-use native.Mathlib.Omega.{arith}
-use lib.Dec.{ltb}
-use lib.ListN.{length}
-use borrow.Author.Tests.{lt-ltb, le-ltb, eqb-false}
+use Rattle.std.proofs.Common.{◌≡◌, refl, sym, ap, ◌∙◌, ◌≢◌, Bool, true, false, not, ◌||◌, List, [], ◌∷◌, ◌++◌, ℕ, ◌+◌, ◌≤◌, ◌<◌, arith, ltb, length, lt-ltb, le-ltb}
+use borrow.Author.Tests.{eqb-false}
 use Rattle.lists.proofs.Tests.{or-true}
 use Rattle.graphs.specs.Image.{Image}
 use Rattle.graphs.specs.ArrayForm.{ArrayForm}

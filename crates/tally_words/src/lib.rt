@@ -1,5 +1,7 @@
 // The five whole-run walkers as a controller calls them: the start is a word, the answer a number, and the tally of a walk is stored in seven
 // lent words. Each takes any input at all: fewer than seven words are one short area more.
+// Answers are numbers: `profile_walker` hands them to C as they are.
+// Five calls and not one: each promise names its own areas; what they share is `hand_over`.
 #![tactic(auto)]
 
 ghost use Rattle.std.specs.Prelude.{◌≡◌, [], ◌∷◌, ◌≤◌, length};

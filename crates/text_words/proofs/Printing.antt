@@ -1,7 +1,5 @@
 -- The lent word for the bytes printed: a refused call leaves it, a call taken stores it.
-use mathlib.Core.Path.{◌≡◌, refl, ap, ◌∙◌}
-use mathlib.Core.List.{List}
-use Prim.Native.Nat.{ℕ, zero, suc}
+use Rattle.std.proofs.Common.{◌≡◌, refl, ap, ◌∙◌, List, ℕ, zero, suc}
 use Rattle.report.specs.Report.{Told, telling}
 use Rattle.text_words.specs.Told.{word_unless, told_in}
 

@@ -1,7 +1,6 @@
 -- What reading a text hands back, from the reader's answer.
 -- By the answer: both are one number, or three sizes.
-use mathlib.Core.Path.{◌≡◌, refl, ap, ◌∙◌}
-use Prim.Native.Nat.{ℕ}
+use Rattle.std.proofs.Common.{◌≡◌, refl, ap, ◌∙◌, ℕ}
 use Rattle.texts.specs.Loading.{Reading, refused, loaded}
 use Rattle.texts.specs.Answers.{Answer, refused_with, sizes, answer_to}
 use Rattle.text_words.specs.Told.{Sizes, sized, handed_sizes}

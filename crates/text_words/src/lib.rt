@@ -1,5 +1,6 @@
 // A text read, a text walked and a refusal printed, as a controller calls for it: sizes and bytes are told in lent words. Each takes any input at
 // all; where it is refused it changes nothing.
+// Answers are numbers: `profile_walker` hands them to C as they are.
 #![tactic(auto)]
 
 ghost use Rattle.std.specs.Prelude.{◌≡◌};

@@ -164,6 +164,7 @@ fn link(n: u16, m: u16, after: &mut [u16])
     ensures { (start : ℕ) (ls : List Line) (area : List ℕ) → Placed n m ls area after.old → after.new ≡ overlay (after_of (listed n m start ls)) area }
 {
     after[..n as usize].fill(0);
+    // By number: two words of one area are written in each turn.
     for k in (0..m).rev() {
         let e = (n + k) as usize;
         let v = after[e] as usize - 1;

@@ -38,6 +38,7 @@ fn print_walk(rt: &impl Print, text: &[u8]) -> io::Result<()> {
 }
 
 // Reads until the area is full or the input ends, and returns how many bytes were read: they stand at the area's start.
+// `read_exact` fails where the input ends first, and `read_to_end` takes memory.
 fn read_full<R: Read>(input: &mut R, text: &mut [u8]) -> io::Result<usize>
     ensures within { IfOk result (λ n. n ≤ length text.new) }
     ensures bytes { IfOk result (λ n. Consumes (R.remaining input.old) (R.remaining input.new) (take n text.new)) }

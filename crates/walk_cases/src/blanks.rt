@@ -19,6 +19,7 @@ pub(crate) enum Form {
 
 impl Form {
     // The forms by eight numbers, of which two give an empty list.
+    // A rest arm gives every number a form, where TryFrom would ask for an error.
     pub(crate) fn nth(k: u16) -> Form {
         match k {
             1 => Form::One,

@@ -7,6 +7,7 @@ use images::{Image, Vertex};
 use refusals::Refusal;
 
 // The answer of a call, with the number of its refusal.
+// The second implementation says document 01's numbers, so that a wrong number of the library shows.
 fn numbered<T>(answer: Result<T, Refusal>) -> Result<T, u16> {
     answer.map_err(|refusal| refusal.number())
 }

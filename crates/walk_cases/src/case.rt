@@ -19,6 +19,7 @@ pub(crate) enum Area {
 
 impl Area {
     // The areas in order, from 0 on.
+    // A rest arm gives every number an area, where TryFrom would ask for an error.
     pub(crate) fn nth(k: u16) -> Area {
         match k {
             0 => Area::Links,

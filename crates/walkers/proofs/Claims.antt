@@ -1,12 +1,6 @@
 -- The claims of specs/Claims, by citing what graphs/ has proved of searches.
-use mathlib.Core.Path.{◌≡◌, refl, sym, ap, ◌∙◌}
-use mathlib.Core.Bool.{false}
-use mathlib.Core.List.{List, [], ◌∷◌, ◌++◌, reverse}
-use Prim.Native.Nat.{ℕ, ◌+◌, ◌*◌, ◌≤◌}
-use borrow.Author.Tests.{le-ltb}
-use native.Mathlib.Omega.{arith}
-use lib.ListN.{length, take, drop, length-reverse}
-use lib.Seq.{take_at}
+use Rattle.std.proofs.Common.{◌≡◌, refl, sym, ap, ◌∙◌, false, List, [], ◌∷◌, ◌++◌, reverse, ℕ, ◌+◌, ◌*◌, ◌≤◌, le-ltb, arith, length, take, drop, take_at}
+use lib.ListN.{length-reverse}
 use Rattle.lists.specs.Counts.{sum_of, rank}
 use Rattle.lists.specs.Words.{values_from}
 use Rattle.lists.proofs.Words.{length-values}

@@ -1,12 +1,6 @@
 -- The claims of specs/TwoLines: what the calls promise is the two lines of folding/, where demands 2 and 3 are proved of their events.
-use mathlib.Core.Path.{◌≡◌, refl, sym, ap, ◌∙◌, subst}
-use mathlib.Core.Bool.{cond}
-use mathlib.Core.List.{List, [], ◌∷◌, ◌++◌, reverse, reverse-reverse, IsPrefix}
-use Prim.Native.Nat.{ℕ, zero, suc, ◌+◌, ◌*◌}
-use native.Mathlib.Omega.{arith}
-use lib.Dec.{eqb}
-use lib.ListN.{length, take, drop}
-use lib.Seq.{take_at}
+use Rattle.std.proofs.Common.{◌≡◌, refl, sym, ap, ◌∙◌, subst, cond, List, [], ◌∷◌, ◌++◌, reverse, ℕ, zero, suc, ◌+◌, ◌*◌, arith, eqb, length, take, drop, take_at}
+use mathlib.Core.List.{reverse-reverse, IsPrefix}
 use Rattle.lists.specs.Words.{overlay}
 use Rattle.graphs.specs.Events.{Event, words, History}
 use Rattle.graphs.specs.Results.{marks_left}

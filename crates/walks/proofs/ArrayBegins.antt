@@ -1,10 +1,7 @@
 -- What a walk of an array form that is taken may rely on.
 -- Its conditions are false, so the array form is sound, its events fit, and its areas are as long as stated.
-use mathlib.Core.Path.{◌≡◌}
-use mathlib.Core.List.{List, [], ◌∷◌, ◌++◌, reverse}
-use Prim.Native.Nat.{ℕ, ◌+◌, ◌*◌, ◌≤◌}
-use native.Mathlib.Omega.{arith}
-use lib.ListN.{length, length-reverse}
+use Rattle.std.proofs.Common.{◌≡◌, List, [], ◌∷◌, ◌++◌, reverse, ℕ, ◌+◌, ◌*◌, ◌≤◌, arith, length}
+use lib.ListN.{length-reverse}
 use Rattle.graphs.specs.Nodes.{Vertex}
 use Rattle.graphs.specs.Events.{History}
 use Rattle.graphs.specs.ArrayForm.{ArrayForm}

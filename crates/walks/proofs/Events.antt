@@ -1,9 +1,7 @@
 -- The words of events in their area: one event more, and its words stand behind those of the events before.
-use mathlib.Core.Path.{◌≡◌, refl, sym, ap, ◌∙◌}
-use mathlib.Core.List.{List, [], ◌∷◌, ◌++◌, reverse, reverse_aux-eq}
-use Prim.Native.Nat.{ℕ, ◌+◌, ◌*◌, ◌≤◌}
-use native.Mathlib.Omega.{arith}
-use lib.ListN.{length, length-reverse}
+use Rattle.std.proofs.Common.{◌≡◌, refl, sym, ap, ◌∙◌, List, [], ◌∷◌, ◌++◌, reverse, ℕ, ◌+◌, ◌*◌, ◌≤◌, arith, length}
+use mathlib.Core.List.{reverse_aux-eq}
+use lib.ListN.{length-reverse}
 use Rattle.lists.specs.Words.{overlay, pasted}
 use Rattle.lists.proofs.Words.{pasted-front, pasted-pasted}
 use Rattle.graphs.specs.Events.{Kind, Event, event, code, words, History, ◌▸◌}

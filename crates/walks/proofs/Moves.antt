@@ -1,11 +1,7 @@
 -- The moves of a depth-first search without recursion: each writes its two events and leads to the next place.
 -- What is left of the search from a place leaves room for them; the two walks add what they keep besides.
-use mathlib.Core.Path.{◌≡◌, refl, sym, ap, ◌∙◌, subst}
-use mathlib.Core.Bool.{true, false}
-use mathlib.Core.List.{List, [], ◌∷◌, IsSuffix-trans}
-use Prim.Native.Nat.{ℕ, suc, ◌+◌, ◌≤◌, ◌<◌}
-use native.Mathlib.Omega.{arith}
-use lib.ListN.{length}
+use Rattle.std.proofs.Common.{◌≡◌, refl, sym, ap, ◌∙◌, subst, true, false, List, [], ◌∷◌, ℕ, suc, ◌+◌, ◌≤◌, ◌<◌, arith, length}
+use mathlib.Core.List.{IsSuffix-trans}
 use Rattle.lists.specs.Members.{Mem, here, there, memb}
 use Rattle.lists.proofs.Tests.{clash}
 use Rattle.lists.proofs.Members.{mem-right, memb-false}

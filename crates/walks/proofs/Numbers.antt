@@ -1,14 +1,7 @@
 -- The number of a walk, once the areas that it is lent are long enough and the start is a vertex: that of the checker, else of the list.
 -- The conditions left are the same, in the same order.
-use mathlib.Core.Path.{◌≡◌, refl, sym, ap, ◌∙◌}
-use mathlib.Core.Bool.{Bool, true, false, not, ◌&&◌, ◌||◌}
-use mathlib.Core.Logic.{◌≢◌}
-use mathlib.Core.List.{List, [], ◌∷◌, ◌++◌}
-use Prim.Native.Nat.{ℕ, ◌+◌}
-use native.Mathlib.Omega.{arith}
-use lib.Dec.{eqb, ltb, leb}
-use lib.ListN.{length}
-use borrow.Author.Tests.{le-leb, lt-leb, ltb-true, ltb-false, not-true, not-false}
+use Rattle.std.proofs.Common.{◌≡◌, refl, sym, ap, ◌∙◌, Bool, true, false, not, ◌&&◌, ◌||◌, ◌≢◌, List, [], ◌∷◌, ◌++◌, ℕ, ◌+◌, arith, eqb, ltb, leb, length, le-leb, ltb-true, ltb-false}
+use borrow.Author.Tests.{lt-leb, not-true, not-false}
 use Rattle.lists.proofs.Tests.{clash}
 use Rattle.graphs.specs.Nodes.{is_vertex}
 use Rattle.graphs.specs.Image.{Image}

@@ -1,7 +1,5 @@
 -- Words as the code reads them: by place, where a definition reads them by node.
-use mathlib.Core.Path.{◌≡◌}
-use Prim.Native.Nat.{ℕ, ◌-◌}
-use lib.ListN.{get_or}
+use Rattle.std.proofs.Common.{◌≡◌, ℕ, ◌-◌, get_or}
 use Rattle.lists.proofs.Words.{read_past}
 use Rattle.graphs.specs.Image.{Image, to}
 

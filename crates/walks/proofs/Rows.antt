@@ -1,5 +1,5 @@
 -- The table of rows, in one theorem: by computation on the definitions.
-use mathlib.Core.Path.{refl}
+use Rattle.std.proofs.Common.{refl}
 use Rattle.lists.specs.Rows.{AllAnswered}
 use Rattle.lists.specs.Words.{at}
 use Rattle.graphs.specs.Image.{edges_of}

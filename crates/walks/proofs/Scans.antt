@@ -1,14 +1,9 @@
 -- What both breadth-first walks meet: the vertices that wait, the edges ahead of the one that is scanned, and an event more.
 -- Each edge traversed leads to a labelled vertex, or labels one that then waits behind the others; the marks tell which.
-use mathlib.Core.Path.{◌≡◌, refl, sym, ap, ◌∙◌, subst}
-use mathlib.Core.Logic.{◌≢◌}
-use mathlib.Core.Bool.{false, not}
-use mathlib.Core.List.{List, [], ◌∷◌, ◌++◌, append_assoc, reverse_aux}
-use Prim.Native.Nat.{ℕ, suc, ◌+◌, ◌-◌, ◌≤◌, ◌<◌}
-use native.Mathlib.Omega.{arith}
-use lib.Dec.{eqb}
-use lib.ListN.{length, get_or, length-reverse_aux}
-use borrow.Author.Tests.{eq-eqb, ne_eqb, not-true, not-false}
+use Rattle.std.proofs.Common.{◌≡◌, refl, sym, ap, ◌∙◌, subst, ◌≢◌, false, not, List, [], ◌∷◌, ◌++◌, append_assoc, ℕ, suc, ◌+◌, ◌-◌, ◌≤◌, ◌<◌, arith, eqb, length, get_or, eq-eqb, ne_eqb}
+use mathlib.Core.List.{reverse_aux}
+use lib.ListN.{length-reverse_aux}
+use borrow.Author.Tests.{not-true, not-false}
 use Rattle.lists.specs.Members.{Mem, here, NoDup, memb}
 use Rattle.lists.specs.Words.{at}
 use Rattle.lists.proofs.Members.{split, nodup-left, mem-left, mem-right, mem-done, memb-false}

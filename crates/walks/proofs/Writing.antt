@@ -1,13 +1,6 @@
 -- What a walk has written, kept event by event.
 -- The areas and the tally are functions of the events so far, so an event more is a law of those functions.
-use mathlib.Core.Path.{◌≡◌, refl, sym, ap, ◌∙◌}
-use mathlib.Core.Bool.{Bool, true, false, not, cond}
-use mathlib.Core.List.{List, [], ◌∷◌, reverse}
-use Prim.Native.Nat.{ℕ, suc, ◌+◌, ◌-◌, ◌*◌, ◌≤◌, ◌<◌}
-use native.Mathlib.Omega.{arith}
-use lib.Dec.{eqb}
-use borrow.Author.Tests.{le-leb}
-use lib.ListN.{length, get_or, set}
+use Rattle.std.proofs.Common.{◌≡◌, refl, sym, ap, ◌∙◌, Bool, true, false, not, cond, List, [], ◌∷◌, reverse, ℕ, suc, ◌+◌, ◌-◌, ◌*◌, ◌≤◌, ◌<◌, arith, eqb, le-leb, length, get_or, set}
 use Rattle.lists.specs.Members.{Mem, memb, cons_if}
 use Rattle.lists.specs.Counts.{rank}
 use Rattle.lists.specs.Words.{at, put, pasted, filled}

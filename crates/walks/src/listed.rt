@@ -4,6 +4,7 @@ ghost use Rattle.lists.specs.Members.{memb};
 ghost use Rattle.graphs.specs.Refusals.{rises};
 
 // Whether the list is strictly rising, within 1 to n.
+// In one pass, as `rises` goes.
 pub fn rises(n: u16, list: &[u16]) -> bool
     ensures { result ≡ rises n 0 list.now }
 {

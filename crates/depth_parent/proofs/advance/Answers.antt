@@ -1,6 +1,6 @@
 -- The next edge is traversed: its target is labelled and scanned next, or it is passed.
 -- The mark of the target tells which; either way two events more make one place of the search another.
-use native.Mathlib.Omega.{arith}
+use Rattle.std.proofs.Common.{arith}
 use Rattle.depth_parent.proofs.Parents.{advance-reads, pass-total, pass-at, tree-total, tree-at}
 use Rattle.depth_parent.proofs.advance.Goals as goal
 

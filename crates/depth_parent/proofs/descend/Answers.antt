@@ -1,6 +1,6 @@
 -- The search goes on while an edge is ahead.
 -- Each turn goes from place to place and emits two events, of at most 10,000.
-use native.Mathlib.Omega.{arith}
+use Rattle.std.proofs.Common.{arith}
 use Rattle.depth_parent.proofs.Parents.{advance-few, goes_some}
 use Rattle.depth_parent.proofs.descend.Goals as goal
 

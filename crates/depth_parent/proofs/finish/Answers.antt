@@ -1,6 +1,6 @@
 -- The search goes back and on until the start has no edge left.
 -- Each turn goes from place to place and emits two events or more, of at most 10,000.
-use native.Mathlib.Omega.{arith}
+use Rattle.std.proofs.Common.{arith}
 use Rattle.depth_parent.proofs.Parents.{retreat-few, goes_some, goes_then}
 use Rattle.depth_parent.proofs.finish.Goals as goal
 

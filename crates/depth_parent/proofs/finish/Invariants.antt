@@ -1,4 +1,4 @@
-use Prim.Native.Nat.{◌-◌}
+use Rattle.std.proofs.Common.{◌-◌}
 use Rattle.images.specs.Checking.{image_of}
 use Rattle.walks.specs.Writing.{total}
 use Rattle.depth_parent.specs.Parents.{Goes}

@@ -1,5 +1,5 @@
 -- Searching a vertex and traversing an edge call each other. Between two edges, what is still ahead makes up the search of the vertex.
-use native.Mathlib.Omega.{arith}
+use Rattle.std.proofs.Common.{arith}
 use Rattle.depth_recursive.proofs.Recursion.{edge-reads, pass-held, tree-search, tree-can, tree_falls, tree-held, search-begins, search-falls, way_at, way-ends, way-edge, way-can, way-turns, way-falls}
 use Rattle.depth_recursive.proofs.+search_vertex_traverse_edge.Goals as goal
 

@@ -1,6 +1,6 @@
 -- The list of u is written from position p on, each edge with the vertex that it leads to.
 -- What was written and what is still to follow are the list; a turn moves one edge over.
-use native.Mathlib.Omega.{arith}
+use Rattle.std.proofs.Common.{arith}
 use Rattle.arrays.proofs.Grouping.{list-first, list-start, list-turn, list-more, list-end}
 use Rattle.arrays.proofs.convert.list_edges.Goals as goal
 

@@ -1,4 +1,4 @@
-use Prim.Native.Nat.{suc, ◌-◌}
+use Rattle.std.proofs.Common.{suc, ◌-◌}
 use Rattle.images.specs.Checking.{image_of}
 use Rattle.arrays.proofs.Grouping.{Listed, Turn}
 use Rattle.arrays.proofs.convert.list_edges.Given as goal

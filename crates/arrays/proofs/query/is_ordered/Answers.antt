@@ -1,6 +1,5 @@
 -- The first words are as the rule says exactly where the first of them, the last and the neighbours are.
-use Rattle.std.proofs.Common.{sym, ◌∙◌}
-use borrow.Author.Tests.{eqb-true}
+use Rattle.std.proofs.Common.{sym, ◌∙◌, eqb-true}
 use Rattle.arrays.specs.Arrays.{form_of}
 use Rattle.arrays.proofs.Arrays.{wrong-begin, wrong-end, neighbours}
 use Rattle.arrays.proofs.query.is_ordered.Goals.{then-firsts-eq1, else-firsts-eq1}

@@ -1,4 +1,4 @@
-use Prim.Native.Nat.{◌-◌, ◌≤◌}
+use Rattle.std.proofs.Common.{◌-◌, ◌≤◌}
 use Rattle.walks.specs.Writing.{total}
 use Rattle.depth_array.specs.Increments.{Onward}
 use Rattle.depth_array.proofs.array.descend.Given as goal

@@ -1,4 +1,4 @@
-use Prim.Native.Nat.{◌+◌}
+use Rattle.std.proofs.Common.{◌+◌}
 use Rattle.graphs.specs.Nodes.{is_link}
 use Rattle.images.proofs.Checks.{Tested}
 use Rattle.images.proofs.check.after_out.Given as goal

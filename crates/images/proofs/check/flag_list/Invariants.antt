@@ -1,4 +1,4 @@
-use Prim.Native.Nat.{◌-◌}
+use Rattle.std.proofs.Common.{◌-◌}
 use Rattle.images.specs.Checking.{list_from, flag_all}
 use Rattle.images.proofs.Checks.{Along}
 use Rattle.images.proofs.check.flag_list.Given as goal

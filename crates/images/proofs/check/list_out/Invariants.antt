@@ -1,4 +1,4 @@
-use Prim.Native.Nat.{◌≤◌}
+use Rattle.std.proofs.Common.{◌≤◌}
 use Rattle.images.proofs.Checks.{Met}
 use Rattle.images.proofs.check.list_out.Given as goal
 

@@ -1,5 +1,5 @@
 -- `refusal_line` makes the line in 14 bytes, and copies it where there is room for it.
-use native.Mathlib.Omega.{arith}
+use Rattle.std.proofs.Common.{arith}
 use Rattle.texts.specs.Text.{line_feed}
 use Rattle.report.proofs.Rows.{line_made, refusal-none, refusal-copied}
 use Rattle.report.proofs.lines.refusal_line.Goals as goal

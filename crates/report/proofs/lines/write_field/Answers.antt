@@ -1,5 +1,5 @@
 -- `write_field` writes a number, and a byte behind it.
-use native.Mathlib.Omega.{arith}
+use Rattle.std.proofs.Common.{arith}
 use Rattle.numbers.specs.Decimal.{written}
 use Rattle.report.proofs.Rows.{Near, number-wrote, field-wrote}
 use Rattle.report.proofs.lines.write_field.Goals.{After-write_number-p}

@@ -1,8 +1,7 @@
 -- `write_rows` writes the lines of the first events.
 -- Invariant: those of the words that the iterator has given are written.
-use Rattle.std.proofs.Common.{ap, ◌∙◌, arith, rules, ◌*◌, length, length-append}
+use Rattle.std.proofs.Common.{ap, ◌∙◌, arith, rules, ◌*◌, length, length-append, length-take-le}
 use Rattle.std.specs.Slice.Iter.{chunks_exact_rest}
-use lib.Seq.{length-take-le}
 use Rattle.report.proofs.Rows.{lines-room, lines-next, lines-all}
 use Rattle.report.proofs.lines.write_rows.Goals as goal
 

@@ -1,7 +1,6 @@
 -- From a text to what is printed: an area too short, a text refused, a profile walked.
 -- The laws of Judged and Graphs say what each of them comes to; here they meet what the calls ensure.
-use mathlib.Core.Path.{◌≡◌, refl, ap}
-use mathlib.Core.Bool.{not}
+use Rattle.std.proofs.Common.{◌≡◌, refl, ap, not}
 use Rattle.std.proofs.lemmas.Result.{err_from_is_err_and}
 use Rattle.graphs.specs.Refusals.{short}
 use Rattle.report.specs.Report.{lent_areas}

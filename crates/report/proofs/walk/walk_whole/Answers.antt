@@ -1,6 +1,5 @@
 -- `walk_whole` opens the walk and runs it: `proofs/Whole` says that both are taken, and what they come to.
-use native.Mathlib.Omega.{arith}
-use lib.Dec.{lit≤}
+use Rattle.std.proofs.Common.{arith, lit≤}
 use borrow.Rule.Slice.PartMut.{put_mid}
 use Rattle.images.specs.Checking.{image}
 use Rattle.report.proofs.Whole as whole

@@ -1,8 +1,6 @@
 -- Fewer than nine words are refused with number 3; else the order is served on the state read out of them, and its reply handed back,
 -- whatever links and marks there are.
-use mathlib.Core.Path.{◌≡◌, ap, ◌∙◌}
-use mathlib.Core.List.{List, []}
-use Prim.Native.Nat.{ℕ}
+use Rattle.std.proofs.Common.{◌≡◌, ap, ◌∙◌, List, [], ℕ}
 use Rattle.folding.specs.Calls.{roll_back}
 use Rattle.states.specs.Answers.{config_of}
 use Rattle.state_words.specs.Handed.{Handed, served_in, handing, handed}

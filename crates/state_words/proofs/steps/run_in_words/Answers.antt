@@ -1,5 +1,5 @@
 -- Fewer than nine words are refused with number 3; else the run is served on the state read out of them, and its reply handed back.
-use mathlib.Core.Path.{◌∙◌}
+use Rattle.std.proofs.Common.{◌∙◌}
 use Rattle.folding.specs.Calls.{run_for}
 use Rattle.states.specs.Answers.{config_of}
 use Rattle.state_words.specs.Handed.{served_in}

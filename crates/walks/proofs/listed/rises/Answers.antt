@@ -1,6 +1,6 @@
 -- `walks::listed::rises` meets its contract: what it returns is the test of the whole list.
 -- The loop keeps that the rest of the list rises over the last word exactly where the whole list rises.
-use native.Mathlib.Omega.{arith}
+use Rattle.std.proofs.Common.{arith}
 use Rattle.walks.proofs.Blanks.{not-rising, past_all, rising, risen}
 use Rattle.walks.proofs.listed.rises.Goals as goal
 

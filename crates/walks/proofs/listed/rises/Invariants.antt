@@ -1,5 +1,4 @@
-use mathlib.Core.Path.{◌≡◌}
-use lib.ListN.{drop}
+use Rattle.std.proofs.Common.{◌≡◌, drop}
 use Rattle.graphs.specs.Refusals.{rises}
 use Rattle.walks.proofs.listed.rises.Given as goal
 

@@ -1,9 +1,5 @@
 -- The marks are cleared but for the list, and the start is labelled.
-use mathlib.Core.Path.{◌≡◌, ap, ◌∙◌}
-use mathlib.Core.List.{List}
-use Prim.Native.Nat.{ℕ, min}
-use native.Mathlib.Omega.{arith}
-use lib.ListN.{length}
+use Rattle.std.proofs.Common.{◌≡◌, ap, ◌∙◌, List, ℕ, min, arith, length}
 use Rattle.lists.proofs.Words.{length-filled}
 use Rattle.graphs.specs.Results.{unless_blank}
 use Rattle.walks.specs.Writing.{no_events, label_tally, label_marks, label_events}

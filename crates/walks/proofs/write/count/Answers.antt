@@ -1,7 +1,6 @@
 -- The seven counts add up to the number of events; as 32-bit words they cannot overflow.
-use native.Mathlib.Omega.{arith}
+use Rattle.std.proofs.Common.{rules, arith}
 use Rattle.walks.proofs.Storing.{seven-sum}
-use Rattle.std.proofs.Common.{rules}
 use Rattle.walks.proofs.write.count.Goals as goal
 
 pub returns : goal.returns

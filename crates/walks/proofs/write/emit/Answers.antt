@@ -1,9 +1,5 @@
 -- Three words are stored behind those of the events tallied, where they have room.
-use mathlib.Core.Path.{◌≡◌, ap, ◌∙◌, sym}
-use mathlib.Core.Bool.{true}
-use Prim.Native.Nat.{ℕ, ◌*◌, ◌-◌}
-use native.Mathlib.Omega.{arith}
-use lib.ListN.{length, length-set}
+use Rattle.std.proofs.Common.{◌≡◌, ap, ◌∙◌, sym, true, ℕ, ◌*◌, ◌-◌, arith, length, length-set}
 use Rattle.walks.specs.Writing.{total, has_room}
 use Rattle.walks.proofs.Storing.{Room, room-is, count_most, not_written, written}
 use Rattle.walks.proofs.write.emit.Goals.{After-count-at}

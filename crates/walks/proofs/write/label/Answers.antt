@@ -1,6 +1,5 @@
 -- The mark is stored and the event written, where both have room.
-use mathlib.Core.Path.{◌∙◌, sym}
-use native.Mathlib.Omega.{arith}
+use Rattle.std.proofs.Common.{◌∙◌, sym, arith}
 use Rattle.walks.proofs.Storing.{room-is, count_most, not-labelled, no-label-past, no-label-room, is-labelled}
 use Rattle.walks.proofs.write.label.Goals as goal
 

@@ -1,9 +1,6 @@
 -- The marks are cleared, and those of the list are stored one by one.
 -- The loop keeps that the marks are those of the words passed, whatever area was cleared.
-use mathlib.Core.Path.{◌≡◌, refl, ap, ◌∙◌}
-use Prim.Native.Nat.{ℕ, min}
-use native.Mathlib.Omega.{arith}
-use lib.ListN.{length, get_or, take}
+use Rattle.std.proofs.Common.{◌≡◌, refl, ap, ◌∙◌, ℕ, min, arith, length, get_or, take}
 use Rattle.lists.proofs.Words.{length-filled, cleared-filled}
 use Rattle.graphs.specs.Results.{unless_blank}
 use Rattle.walks.specs.Writing.{blank_marked}

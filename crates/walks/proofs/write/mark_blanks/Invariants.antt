@@ -1,7 +1,4 @@
-use mathlib.Core.Path.{◌≡◌}
-use mathlib.Core.List.{List, []}
-use Prim.Native.Nat.{ℕ, min}
-use lib.ListN.{length, take}
+use Rattle.std.proofs.Common.{◌≡◌, List, [], ℕ, min, length, take}
 use Rattle.graphs.specs.Results.{marks_first}
 use Rattle.walks.proofs.write.mark_blanks.Given as goal
 
