@@ -25,11 +25,12 @@ pub(crate) fn holds<T: PartialEq + Drop>(area: &[T], items: &[T], before: T) -> 
     area.starts_with(items) && area.iter().skip(items.len()).all(|item| *item == before)
 }
 
-// Writes items over an area, from a place on.
+// Writes items over an area, from a place on, as many as it has room for.
 pub(crate) fn store<T: Copy>(area: &mut [T], at: usize, items: &[T]) {
-    for (place, item) in area.iter_mut().skip(at).zip(items) {
-        *place = *item;
-    }
+    let start = at.min(area.len());
+    let rest = &mut area[start..];
+    let count = rest.len().min(items.len());
+    rest[..count].copy_from_slice(&items[..count]);
 }
 
 // Puts a word at a place of an area, if it has that place.

@@ -28,6 +28,7 @@ impl Paths {
     // Joins the paths from u to k and from k on.
     fn join(&mut self, k: u16, u: u16) {
         if self.has(u, k) {
+            // By number: one row is read while another is written.
             for x in 0..=GREATEST {
                 if self.has(k, x) {
                     self.note(u, x);

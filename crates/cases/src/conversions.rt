@@ -1,7 +1,7 @@
 // The converter: into areas that are untouched before, against the array form of a listing.
 use crate::areas::{SPAN, UNTOUCHED, holds, lent, part};
 use crate::calls::to_array;
-use crate::drawn::{Image, draw_length, draw_sizes, other_sizes};
+use crate::drawn::{Image, add_damaged, draw_length, draw_sizes, other_sizes};
 use crate::image::{Sizes, judge_image};
 use crate::listing::{Line, find_listing, first_positions, ordered_edges, ordered_tails};
 use crate::tally::{Group, Outcome};
@@ -130,7 +130,7 @@ pub(crate) fn converted_as_found(
 pub(crate) fn sound_cases(group: &mut Group) -> Result<(), AllocError> {
     let alloc = group.alloc;
     let mut image = Image::new(alloc)?;
-    group.add_draws(0..=1999, |seed| {
+    group.add_each(0..=1999u16, |seed| {
         let sizes = draw_sizes(seed);
         let listing = image.draw(alloc, seed, sizes)?;
         converted(alloc, &image, &listing, Given::draw(seed, sizes))
@@ -140,9 +140,7 @@ pub(crate) fn sound_cases(group: &mut Group) -> Result<(), AllocError> {
 // Damaged images.
 pub(crate) fn damaged_cases(group: &mut Group) -> Result<(), AllocError> {
     let alloc = group.alloc;
-    let mut image = Image::new(alloc)?;
-    group.add_draws(0..=2999, |seed| {
-        image.draw_damaged(alloc, seed)?;
-        converted_as_found(alloc, &image, Given::draw(seed, other_sizes(seed)))
+    add_damaged(group, 0..=2999, |image, seed| {
+        converted_as_found(alloc, image, Given::draw(seed, other_sizes(seed)))
     })
 }

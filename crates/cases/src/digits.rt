@@ -1,10 +1,10 @@
 // Numbers of the text: written and read back, all of them; at places without room; and digits in form and not.
-use crate::areas::{BLANK, lent, part, store};
+use crate::areas::{BLANK, lent, part, store, word};
 use crate::calls::{read_number, write_number};
 use crate::chance::{draw, draw_below, draw_word, pick};
 use crate::tally::{Group, Outcome};
 use std::alloc::{AllocError, Global};
-use std::str;
+use std::{array, str};
 
 // The call is lent an area of this many bytes, or fewer.
 const ROOM: usize = 16;
@@ -40,7 +40,7 @@ fn written(alloc: Global, x: u16, length: usize, at: usize) -> Result<Outcome, A
     let first = write(x, length, at);
     let second = write_second(alloc, x, length, at)?;
     Ok(Outcome {
-        answer: if first.past == at { 3 } else { 0 },
+        answer: if first.past == at { Err(3) } else { Ok(()) },
         differs: first != second,
     })
 }
@@ -57,7 +57,7 @@ fn value_case(alloc: Global, x: u16) -> Result<Outcome, AllocError> {
 // Every number.
 pub(crate) fn value_cases(group: &mut Group) -> Result<(), AllocError> {
     let alloc = group.alloc;
-    group.add_draws(0..=u16::MAX, |x| value_case(alloc, x))
+    group.add_each(0..=u16::MAX, |x| value_case(alloc, x))
 }
 
 // A place: mostly near the start, at times far past every area.
@@ -101,7 +101,11 @@ fn written_as(alloc: Global, x: u16, digits: &[u8]) -> Result<Outcome, AllocErro
     let without = written(alloc, x, length.saturating_sub(1), 0)?;
     let with = written(alloc, x, length, 0)?;
     let Digits { area, .. } = write(x, length, 0);
-    Ok(with.expected(0).also(without.differs || without.answer != 3 || !area.starts_with(digits)))
+    let without = without.expected(Err(3));
+    Ok(
+        with.expected(Ok(()))
+            .also(without.differs || !area.starts_with(digits)),
+    )
 }
 
 // A number written at a place with or without room.
@@ -113,8 +117,8 @@ fn placed_case(alloc: Global, seed: u16) -> Result<Outcome, AllocError> {
 // The numbers at the limits, then numbers and places by chance.
 pub(crate) fn room_cases(group: &mut Group) -> Result<(), AllocError> {
     let alloc = group.alloc;
-    group.add_rows(&LIMITS, |(x, digits)| written_as(alloc, *x, digits))?;
-    group.add_draws(0..=3999, |seed| placed_case(alloc, seed))
+    group.add_each(LIMITS.iter(), |(x, digits)| written_as(alloc, *x, digits))?;
+    group.add_each(0..=3999u16, |seed| placed_case(alloc, seed))
 }
 
 // The number at a place: first the end of its digits is found, then what they are worth.
@@ -124,18 +128,21 @@ fn take_number(text: &[u8], at: usize) -> Option<(u16, usize)> {
     if 5 < count {
         return None;
     }
+<<<<<<< HEAD
     let digits = str::from_utf8(rest.get(..count)?).ok()?;
     let value = digits.parse().ok()?;
+=======
+    let count = (1..6usize).find(|k| !is_digit(*k))?;
+    let value = str::from_utf8(rest.get(..count)?).ok()?.parse().ok()?;
+>>>>>>> c7c70a69060ea1d7f6e8a74c7ec320f1f37aa77e
     Some((value, at.checked_add(count)?))
 }
 
 // The case of a read: what is found against the second; 12 is counted where the digits are not in form.
 fn read(text: &[u8], at: usize) -> Outcome {
-    let found = read_number(text, at);
-    Outcome {
-        answer: if found.is_none() { 12 } else { 0 },
-        differs: found != take_number(text, at),
-    }
+    let first = read_number(text, at).ok_or(12);
+    let second = take_number(text, at).ok_or(12);
+    Outcome::of(first, second)
 }
 
 // One to five digits, with zeros in front and without, up to 65,535; more, and six digits; a byte behind that is no digit. With what is
@@ -163,15 +170,13 @@ fn read_as(digits: &[u8], said: Option<(u16, usize)>) -> Outcome {
 
 // Bytes by chance: mostly digits, many of them zeros, else what stands next to the digits, in a text or in no text.
 fn draw_digits(seed: u16) -> [u8; ROOM] {
-    let mut text = [0u8; ROOM];
-    for (place, byte) in (100..116u16).zip(text.iter_mut()) {
-        *byte = pick(
+    array::from_fn(|i| {
+        pick(
             seed,
-            place,
+            word(i).wrapping_add(100),
             b"0000000000000000123456789123456789465535/:,\n -+\x00\xff",
-        );
-    }
-    text
+        )
+    })
 }
 
 // A number read from digits by chance, at times from one next to the limit 65,535.
@@ -188,6 +193,6 @@ fn drawn_case(alloc: Global, seed: u16) -> Result<Outcome, AllocError> {
 // The digits that are written down, then digits by chance.
 pub(crate) fn digits_cases(group: &mut Group) -> Result<(), AllocError> {
     let alloc = group.alloc;
-    group.add_rows(&READS, |(digits, said)| Ok(read_as(digits, *said)))?;
-    group.add_draws(0..=3999, |seed| drawn_case(alloc, seed))
+    group.add_each(READS.iter(), |(digits, said)| Ok(read_as(digits, *said)))?;
+    group.add_each(0..=3999u16, |seed| drawn_case(alloc, seed))
 }

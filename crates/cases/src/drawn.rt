@@ -5,6 +5,7 @@ use crate::image::{Sizes, checked, told_tails};
 use crate::listing::{Line, after_words, draw_listing, tails};
 use crate::tally::{Group, Outcome};
 use std::alloc::{AllocError, Global};
+use std::ops::RangeInclusive;
 
 // The areas of a linked image. What is drawn is written over what was there.
 #[derive(Drop)]
@@ -177,22 +178,29 @@ fn tell_drawn(image: &Image, seed: u16) -> Outcome {
     told_tails(sizes, part(&image.tail, of_tail))
 }
 
-// The checker on drawn and damaged images.
-pub(crate) fn check_cases(group: &mut Group) -> Result<(), AllocError> {
+// Adds the case of each seed's damaged image.
+pub(crate) fn add_damaged<F: FnMut(&Image, u16) -> Result<Outcome, AllocError>>(
+    group: &mut Group,
+    seeds: RangeInclusive<u16>,
+    mut case: F,
+) -> Result<(), AllocError>
+    requires { F.IsAlwaysCallable case }
+{
     let alloc = group.alloc;
     let mut image = Image::new(alloc)?;
-    group.add_draws(0..=3999, |seed| {
+    for seed in seeds {
         image.draw_damaged(alloc, seed)?;
-        Ok(check_drawn(&image, seed))
-    })
+        group.add(case(&image, seed)?)?;
+    }
+    Ok(())
+}
+
+// The checker on drawn and damaged images.
+pub(crate) fn check_cases(group: &mut Group) -> Result<(), AllocError> {
+    add_damaged(group, 0..=3999, |image, seed| Ok(check_drawn(image, seed)))
 }
 
 // The tails of drawn and damaged images.
 pub(crate) fn tail_cases(group: &mut Group) -> Result<(), AllocError> {
-    let alloc = group.alloc;
-    let mut image = Image::new(alloc)?;
-    group.add_draws(0..=3999, |seed| {
-        image.draw_damaged(alloc, seed)?;
-        Ok(tell_drawn(&image, seed))
-    })
+    add_damaged(group, 0..=3999, |image, seed| Ok(tell_drawn(image, seed)))
 }

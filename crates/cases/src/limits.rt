@@ -1,5 +1,5 @@
-// Images and array forms at the limits: 1,000 vertices and 4,000 edges. Each case is a row of a table, with the number that it is to
-// be answered with.
+// Images and array forms at the limits: 1,000 vertices and 4,000 edges. Each case is a row of a table, with the answer that it is to
+// be given.
 use crate::areas::{part, put};
 use crate::conversions::{Given, converted};
 use crate::drawn::Image;
@@ -12,84 +12,83 @@ const LARGEST: Sizes = Sizes { n: 1000, m: 4000 };
 
 // A word in place of another in the largest image: of its after words or of its tails.
 #[derive(Clone, Copy)]
-enum Replaced {
-    Nothing,
+enum OtherWord {
     After(usize, u16),
     Tail(usize, u16),
 }
 
-// The sizes and the lengths that the checker is given, and a word that is replaced.
+// The sizes and the lengths that the checker is given, and a word that is put in place of another.
 #[derive(Clone, Copy)]
 struct CheckRow {
     n: u16,
     m: u16,
     after: usize,
     tail: usize,
-    replaced: Replaced,
-    number: u16,
+    other: Option<OtherWord>,
+    answer: Result<(), u16>,
 }
 
 // Sizes and lengths of the largest image as it was drawn.
-fn sized(n: u16, m: u16, after: usize, tail: usize, number: u16) -> CheckRow {
+fn sized(n: u16, m: u16, after: usize, tail: usize, answer: Result<(), u16>) -> CheckRow {
     CheckRow {
         n,
         m,
         after,
         tail,
-        replaced: Replaced::Nothing,
-        number,
+        other: None,
+        answer,
     }
 }
 
-// The largest image with one word replaced.
-fn with_word(replaced: Replaced, number: u16) -> CheckRow {
+// The largest image with another word in one place.
+fn with_word(other: OtherWord, answer: Result<(), u16>) -> CheckRow {
     CheckRow {
         n: 1000,
         m: 4000,
         after: 5000,
         tail: 4000,
-        replaced,
-        number,
+        other: Some(other),
+        answer,
     }
 }
 
 // The rows of the checker.
 fn check_rows() -> [CheckRow; 12] {
     [
-        sized(1000, 4000, 5000, 4000, 0),
-        sized(1001, 4000, 5001, 4000, 1),
-        sized(1001, 4001, 5002, 4001, 1),
-        sized(1000, 4001, 5001, 4001, 2),
-        sized(1000, 4000, 4999, 4000, 3),
-        sized(1000, 4000, 5000, 3999, 3),
-        with_word(Replaced::After(4999, 5001), 5),
-        with_word(Replaced::After(0, 1000), 5),
-        with_word(Replaced::Tail(3999, 1001), 6),
-        with_word(Replaced::Tail(3999, 0), 6),
-        with_word(Replaced::Tail(3999, 1000), 0),
-        with_word(Replaced::After(4999, 5000), 7),
+        sized(1000, 4000, 5000, 4000, Ok(())),
+        sized(1001, 4000, 5001, 4000, Err(1)),
+        sized(1001, 4001, 5002, 4001, Err(1)),
+        sized(1000, 4001, 5001, 4001, Err(2)),
+        sized(1000, 4000, 4999, 4000, Err(3)),
+        sized(1000, 4000, 5000, 3999, Err(3)),
+        with_word(OtherWord::After(4999, 5001), Err(5)),
+        with_word(OtherWord::After(0, 1000), Err(5)),
+        with_word(OtherWord::Tail(3999, 1001), Err(6)),
+        with_word(OtherWord::Tail(3999, 0), Err(6)),
+        with_word(OtherWord::Tail(3999, 1000), Ok(())),
+        with_word(OtherWord::After(4999, 5000), Err(7)),
     ]
 }
 
-// The checker on the largest image, drawn and then replaced in one word.
+// The checker on the largest image, drawn and then with another word in one place.
 fn check_row(alloc: Global, row: &CheckRow) -> Result<Outcome, AllocError> {
     let mut image = Image::new(alloc)?;
     image.draw(alloc, 1, LARGEST)?;
-    match row.replaced {
-        Replaced::Nothing => {}
-        Replaced::After(place, word) => put(&mut image.after, place, word),
-        Replaced::Tail(place, word) => put(&mut image.tail, place, word),
+    match row.other {
+        Some(OtherWord::After(place, word)) => put(&mut image.after, place, word),
+        Some(OtherWord::Tail(place, word)) => put(&mut image.tail, place, word),
+        None => {}
     }
     let sizes = Sizes { n: row.n, m: row.m };
     let after = part(&image.after, row.after);
     let tail = part(&image.tail, row.tail);
-    Ok(checked(sizes, after, tail).expected(row.number))
+    Ok(checked(sizes, after, tail).expected(row.answer))
 }
 
 // The checker at the limits.
 pub(crate) fn check_cases(group: &mut Group) -> Result<(), AllocError> {
     let alloc = group.alloc;
-    group.add_rows(&check_rows(), |row| check_row(alloc, row))
+    group.add_each(check_rows().iter(), |row| check_row(alloc, row))
 }
 
 // The sizes that a conversion is given, and the lengths of its first positions and its tails.
@@ -99,16 +98,16 @@ struct ConversionRow {
     m: u16,
     firsts: usize,
     tails: usize,
-    number: u16,
+    answer: Result<(), u16>,
 }
 
 #[rattlefmt::skip]
 const CONVERSIONS: [ConversionRow; 5] = [
-    ConversionRow { n: 1001, m: 4000, firsts: 1002, tails: 4000, number: 1 },
-    ConversionRow { n: 1000, m: 4001, firsts: 1001, tails: 4001, number: 2 },
-    ConversionRow { n: 1000, m: 4000, firsts: 1000, tails: 4000, number: 3 },
-    ConversionRow { n: 1000, m: 4000, firsts: 1001, tails: 3999, number: 3 },
-    ConversionRow { n: 1000, m: 4000, firsts: 1001, tails: 4000, number: 0 },
+    ConversionRow { n: 1001, m: 4000, firsts: 1002, tails: 4000, answer: Err(1) },
+    ConversionRow { n: 1000, m: 4001, firsts: 1001, tails: 4001, answer: Err(2) },
+    ConversionRow { n: 1000, m: 4000, firsts: 1000, tails: 4000, answer: Err(3) },
+    ConversionRow { n: 1000, m: 4000, firsts: 1001, tails: 3999, answer: Err(3) },
+    ConversionRow { n: 1000, m: 4000, firsts: 1001, tails: 4000, answer: Ok(()) },
 ];
 
 // The converter at the limits.
@@ -116,7 +115,7 @@ pub(crate) fn conversion_cases(group: &mut Group) -> Result<(), AllocError> {
     let alloc = group.alloc;
     let mut image = Image::new(alloc)?;
     let listing = image.draw(alloc, 1, LARGEST)?;
-    group.add_rows(&CONVERSIONS, |row| {
+    group.add_each(CONVERSIONS.iter(), |row| {
         let given = Given {
             sizes: Sizes { n: row.n, m: row.m },
             after: 5000,
@@ -125,7 +124,7 @@ pub(crate) fn conversion_cases(group: &mut Group) -> Result<(), AllocError> {
             tails: row.tails,
             numbers: 4000,
         };
-        Ok(converted(alloc, &image, &listing, given)?.expected(row.number))
+        Ok(converted(alloc, &image, &listing, given)?.expected(row.answer))
     })
 }
 
@@ -137,19 +136,19 @@ struct QueryRow {
     firsts: usize,
     tails: usize,
     u: u16,
-    number: u16,
+    answer: Result<(), u16>,
 }
 
 #[rattlefmt::skip]
 const QUERIES: [QueryRow; 8] = [
-    QueryRow { n: 1000, m: 4000, firsts: 1001, tails: 4000, u: 1, number: 0 },
-    QueryRow { n: 1000, m: 4000, firsts: 1001, tails: 4000, u: 500, number: 0 },
-    QueryRow { n: 1000, m: 4000, firsts: 1001, tails: 4000, u: 1000, number: 0 },
-    QueryRow { n: 1000, m: 4000, firsts: 1001, tails: 4000, u: 1001, number: 4 },
-    QueryRow { n: 1001, m: 4000, firsts: 1002, tails: 4000, u: 1, number: 1 },
-    QueryRow { n: 1000, m: 4001, firsts: 1001, tails: 4001, u: 1, number: 2 },
-    QueryRow { n: 1000, m: 4000, firsts: 1000, tails: 4000, u: 1, number: 3 },
-    QueryRow { n: 1000, m: 4000, firsts: 1001, tails: 3999, u: 1, number: 3 },
+    QueryRow { n: 1000, m: 4000, firsts: 1001, tails: 4000, u: 1, answer: Ok(()) },
+    QueryRow { n: 1000, m: 4000, firsts: 1001, tails: 4000, u: 500, answer: Ok(()) },
+    QueryRow { n: 1000, m: 4000, firsts: 1001, tails: 4000, u: 1000, answer: Ok(()) },
+    QueryRow { n: 1000, m: 4000, firsts: 1001, tails: 4000, u: 1001, answer: Err(4) },
+    QueryRow { n: 1001, m: 4000, firsts: 1002, tails: 4000, u: 1, answer: Err(1) },
+    QueryRow { n: 1000, m: 4001, firsts: 1001, tails: 4001, u: 1, answer: Err(2) },
+    QueryRow { n: 1000, m: 4000, firsts: 1000, tails: 4000, u: 1, answer: Err(3) },
+    QueryRow { n: 1000, m: 4000, firsts: 1001, tails: 3999, u: 1, answer: Err(3) },
 ];
 
 // The query at the limits.
@@ -157,13 +156,13 @@ pub(crate) fn query_cases(group: &mut Group) -> Result<(), AllocError> {
     let alloc = group.alloc;
     let mut form = ArrayForm::new(alloc)?;
     form.draw(alloc, 2, LARGEST)?;
-    group.add_rows(&QUERIES, |row| {
+    group.add_each(QUERIES.iter(), |row| {
         let query = Query {
             sizes: Sizes { n: row.n, m: row.m },
             firsts: row.firsts,
             tails: row.tails,
             u: row.u,
         };
-        Ok(query.asked(alloc, &form)?.expected(row.number))
+        Ok(query.asked(alloc, &form)?.expected(row.answer))
     })
 }

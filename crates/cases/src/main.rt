@@ -1,6 +1,6 @@
 // Runs the calls of the crates below on cases, and compares every answer and every lent word with a second implementation, and the walk
-// of a text with that of the same text padded. One line is printed for each group of cases: how many there are, how many differ, and how
-// many were answered with each number of document 01.
+// of a text with that of the same text padded. One line is printed for each group of cases: how many there are, how many differ, how many
+// were taken, and how many were refused with each number of document 01.
 #![tactic(auto)]
 
 mod areas;

@@ -23,10 +23,10 @@ fn draw_node(seed: u16, sizes: Sizes) -> u16 {
     }
 }
 
-// What was told: no answer is counted where it is so, this one where it is not.
+// What was told: counted as taken where it is so, as this refusal where it is not.
 fn told(is: bool, second: bool, otherwise: u16) -> Outcome {
     Outcome {
-        answer: if is { 0 } else { otherwise },
+        answer: if is { Ok(()) } else { Err(otherwise) },
         differs: is != second,
     }
 }
@@ -50,10 +50,10 @@ fn link_case(seed: u16) -> Outcome {
 
 // Vertices by chance.
 pub(crate) fn vertex_cases(group: &mut Group) -> Result<(), AllocError> {
-    group.add_draws(0..=3999, |seed| Ok(vertex_case(seed)))
+    group.add_each(0..=3999u16, |seed| Ok(vertex_case(seed)))
 }
 
 // Links by chance.
 pub(crate) fn link_cases(group: &mut Group) -> Result<(), AllocError> {
-    group.add_draws(0..=3999, |seed| Ok(link_case(seed)))
+    group.add_each(0..=3999u16, |seed| Ok(link_case(seed)))
 }

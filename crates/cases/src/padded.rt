@@ -37,17 +37,17 @@ fn walked_both(
     Ok(Outcome::of(first.answer, second.answer).also(differs))
 }
 
-// A text of 8,186 lines, 1,1 as far as an area has words and then 0,0, that is to have so many bytes; with its number.
+// A text of 8,186 lines, 1,1 as far as an area has words and then 0,0, that is to have so many bytes; with its answer.
 fn loops_case(
     alloc: Global,
     width: usize,
     bytes: usize,
-    number: u16,
+    answer: Result<(), u16>,
 ) -> Result<Outcome, AllocError> {
     let listing = draw_listing(alloc, 0, 1, 8186, 1)?;
     let text = between_all(8186, width).text(alloc, &listing)?;
     let outcome = compare_walk(alloc, text.as_bytes(), Lent::ALL)?.outcome;
-    Ok(outcome.expected(number).also(text.len() != bytes))
+    Ok(outcome.expected(answer).also(text.len() != bytes))
 }
 
 // The largest profile that is taken.
@@ -55,7 +55,7 @@ fn largest_case(alloc: Global) -> Result<Outcome, AllocError> {
     let listing = chain(alloc, 4000)?;
     let outcome = walked_both(alloc, &listing, between_all(4000, UNPADDED), Lent::ALL)?;
     let padded = between_all(4000, PADDED).text(alloc, &listing)?;
-    Ok(outcome.expected(0).also(padded.len() != 48052))
+    Ok(outcome.expected(Ok(())).also(padded.len() != 48052))
 }
 
 // A listing by chance, written as it was drawn or with one value in place of another.
@@ -74,8 +74,8 @@ fn drawn_case(alloc: Global, i: u16) -> Result<Outcome, AllocError> {
 // chance.
 pub(crate) fn cases(group: &mut Group) -> Result<(), AllocError> {
     let alloc = group.alloc;
-    group.add(loops_case(alloc, UNPADDED, 32790, 2)?)?;
-    group.add(loops_case(alloc, PADDED, 98284, 13)?)?;
+    group.add(loops_case(alloc, UNPADDED, 32790, Err(2))?)?;
+    group.add(loops_case(alloc, PADDED, 98284, Err(13))?)?;
     group.add(largest_case(alloc)?)?;
-    group.add_draws(0..=599, |i| drawn_case(alloc, i))
+    group.add_each(0..=599u16, |i| drawn_case(alloc, i))
 }

@@ -54,20 +54,19 @@ pub(crate) fn spoil(
     place: usize,
     spoilt: Spoilt,
 ) -> Result<Vec<u8>, AllocError> {
-    let mut copy = Vec::new(alloc);
-    for (i, byte) in text.iter().enumerate() {
-        if i != place {
-            copy.push(*byte)?;
-            continue;
-        }
-        match spoilt {
-            Spoilt::Replaced(other) => copy.push(other)?,
-            Spoilt::Missing => {}
-            Spoilt::Preceded(other) => copy.extend_from_slice(&[other, *byte])?,
-            Spoilt::Doubled => copy.extend_from_slice(&[*byte, *byte])?,
-            Spoilt::Cut => break,
-        }
+    let (before, rest) = text.split_at(place.min(text.len()));
+    let Some((byte, behind)) = rest.split_first() else {
+        return text.to_vec(alloc);
+    };
+    let mut copy = before.to_vec(alloc)?;
+    match spoilt {
+        Spoilt::Replaced(other) => copy.push(other)?,
+        Spoilt::Missing => {}
+        Spoilt::Preceded(other) => copy.extend_from_slice(&[other, *byte])?,
+        Spoilt::Doubled => copy.extend_from_slice(&[*byte, *byte])?,
+        Spoilt::Cut => return Ok(copy),
     }
+    copy.extend_from_slice(behind)?;
     Ok(copy)
 }
 
@@ -90,7 +89,7 @@ fn as_listed(seed: u16) -> Written {
         m: u32::from(m),
         start: u32::from(draw_from_one(seed, 70, n)),
         lines: m,
-        replaced: Replaced::Nothing,
+        replaced: None,
         width: usize::from(draw(seed, 81, 5)) + UNPADDED,
     }
 }
@@ -121,8 +120,8 @@ pub(crate) fn not_as_listed(seed: u16) -> Written {
         0 => written.n = value,
         1 => written.m = value,
         2 => written.start = value,
-        3 => written.replaced = Replaced::From(line, value),
-        4 => written.replaced = Replaced::To(line, value),
+        3 => written.replaced = Some(Replaced::From(line, value)),
+        4 => written.replaced = Some(Replaced::To(line, value)),
         5 => written.lines = m.wrapping_add(1),
         6 => written.lines = line,
         7 => written.width = 6,
@@ -180,13 +179,13 @@ fn sound_case(alloc: Global, seed: u16) -> Result<Outcome, AllocError> {
 // Texts in form.
 pub(crate) fn sound_cases(group: &mut Group) -> Result<(), AllocError> {
     let alloc = group.alloc;
-    group.add_draws(0..=1999, |seed| sound_case(alloc, seed))
+    group.add_each(0..=1999u16, |seed| sound_case(alloc, seed))
 }
 
 // Damaged texts.
 pub(crate) fn damaged_cases(group: &mut Group) -> Result<(), AllocError> {
     let alloc = group.alloc;
-    group.add_draws(0..=5999, |seed| {
+    group.add_each(0..=5999u16, |seed| {
         let text = draw_damaged(alloc, seed)?;
         read_drawn(alloc, &text, seed)
     })

@@ -154,7 +154,7 @@ fn draw_u(seed: u16, n: u16) -> u16 {
 pub(crate) fn sound_cases(group: &mut Group) -> Result<(), AllocError> {
     let alloc = group.alloc;
     let mut form = ArrayForm::new(alloc)?;
-    group.add_draws(0..=1999, |seed| {
+    group.add_each(0..=1999u16, |seed| {
         let sizes = draw_sizes(seed);
         form.draw(alloc, seed, sizes)?;
         Query::draw(seed, sizes).asked(alloc, &form)
@@ -165,7 +165,7 @@ pub(crate) fn sound_cases(group: &mut Group) -> Result<(), AllocError> {
 pub(crate) fn damaged_cases(group: &mut Group) -> Result<(), AllocError> {
     let alloc = group.alloc;
     let mut form = ArrayForm::new(alloc)?;
-    group.add_draws(0..=3999, |seed| {
+    group.add_each(0..=3999u16, |seed| {
         form.draw_damaged(alloc, seed)?;
         Query::draw(seed, other_sizes(seed)).asked(alloc, &form)
     })

@@ -30,16 +30,16 @@ fn printed(alloc: Global, number: u16, room: usize) -> Result<Outcome, AllocErro
 // Each number from 0 to 65,535.
 pub(crate) fn number_cases(group: &mut Group) -> Result<(), AllocError> {
     let alloc = group.alloc;
-    group.add_draws(0..=u16::MAX, |number| {
+    group.add_each(0..=u16::MAX, |number| {
         let room = line(alloc, number)?.len();
-        Ok(printed(alloc, number, room)?.expected(0))
+        Ok(printed(alloc, number, room)?.expected(Ok(())))
     })
 }
 
 // Document 01's example.
 fn example_case(alloc: Global) -> Result<Outcome, AllocError> {
     let differs = line(alloc, 6)?.as_str() != "refused,6\n";
-    Ok(printed(alloc, 6, 10)?.expected(0).also(differs))
+    Ok(printed(alloc, 6, 10)?.expected(Ok(())).also(differs))
 }
 
 // The least and the greatest number of each length.
@@ -49,10 +49,10 @@ const LIMITS: [u16; 10] = [0, 9, 10, 99, 100, 999, 1000, 9999, 10000, 65535];
 fn limit_cases(group: &mut Group, number: u16) -> Result<(), AllocError> {
     let alloc = group.alloc;
     let length = line(alloc, number)?.len();
-    group.add(printed(alloc, number, 0)?.expected(3))?;
-    group.add(printed(alloc, number, length.saturating_sub(1))?.expected(3))?;
-    group.add(printed(alloc, number, length.saturating_add(1))?.expected(0))?;
-    group.add(printed(alloc, number, 20)?.expected(0))
+    group.add(printed(alloc, number, 0)?.expected(Err(3)))?;
+    group.add(printed(alloc, number, length.saturating_sub(1))?.expected(Err(3)))?;
+    group.add(printed(alloc, number, length.saturating_add(1))?.expected(Ok(())))?;
+    group.add(printed(alloc, number, 20)?.expected(Ok(())))
 }
 
 // The example and the limits, then numbers and rooms by chance.
@@ -62,7 +62,7 @@ pub(crate) fn room_cases(group: &mut Group) -> Result<(), AllocError> {
     for number in LIMITS {
         limit_cases(group, number)?;
     }
-    group.add_draws(0..=3999, |seed| {
+    group.add_each(0..=3999u16, |seed| {
         printed(alloc, draw_number(seed), draw_below(seed, 70, 20))
     })
 }

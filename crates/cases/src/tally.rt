@@ -1,13 +1,14 @@
 // What the cases gave, counted and printed.
+ghost use Rattle.std.specs.Iterator.{IsFinite};
+
 use std::alloc::{AllocError, Global};
 use std::io;
-use std::ops::RangeInclusive;
 
-// The outcome of a case: what the call answered, as a number of document 01 (0: taken), and whether that, or a lent word, is not what
+// The outcome of a case: what the call answered, a refusal as its number in document 01, and whether that, or a lent word, is not what
 // the second implementation says.
 #[derive(Clone, Copy, PartialEq, Eq)]
 pub(crate) struct Outcome {
-    pub(crate) answer: u16,
+    pub(crate) answer: Result<(), u16>,
     pub(crate) differs: bool,
 }
 
@@ -19,7 +20,7 @@ impl Outcome {
     ) -> Outcome {
         let differs = first != second;
         Outcome {
-            answer: first.err().unwrap_or(0),
+            answer: first.map(|_| ()),
             differs,
         }
     }
@@ -33,7 +34,7 @@ impl Outcome {
     }
 
     // The outcome that is to have this answer too.
-    pub(crate) fn expected(self, answer: u16) -> Outcome {
+    pub(crate) fn expected(self, answer: Result<(), u16>) -> Outcome {
         self.also(self.answer != answer)
     }
 }
@@ -52,43 +53,32 @@ impl Group {
         Ok(())
     }
 
-    // Adds the case of each row of a table.
-    pub(crate) fn add_rows<T, F: FnMut(&T) -> Result<Outcome, AllocError>>(
+    // Adds the case of each item, as a row of a table or a seed.
+    pub(crate) fn add_each<I: Iterator, F: FnMut(I::Item) -> Result<Outcome, AllocError>>(
         &mut self,
-        rows: &[T],
+        items: I,
         mut case: F,
     ) -> Result<(), AllocError>
-        requires { F.IsAlwaysCallable case }
+        requires can { I.can_next items }
+        requires ends { IsFinite (I.remaining items) }
+        requires callable { F.IsAlwaysCallable case }
     {
-        for row in rows {
-            self.add(case(row)?)?;
-        }
-        Ok(())
-    }
-
-    // Adds the case of each seed.
-    pub(crate) fn add_draws<F: FnMut(u16) -> Result<Outcome, AllocError>>(
-        &mut self,
-        seeds: RangeInclusive<u16>,
-        mut case: F,
-    ) -> Result<(), AllocError>
-        requires { F.IsAlwaysCallable case }
-    {
-        for seed in seeds {
-            self.add(case(seed)?)?;
+        for item in items {
+            self.add(case(item)?)?;
         }
         Ok(())
     }
 }
 
-// Prints one line of a group's outcomes: the name, the cases, those that differ, and how many answered each number.
+// Prints one line of a group's outcomes: the name, the cases, those that differ, those taken, and those refused with each number.
 fn print_outcomes(rt: &impl Print, name: &str, outcomes: &[Outcome]) -> io::Result<()> {
     let cases = outcomes.len();
     let differing = outcomes.iter().filter(|o| o.differs).count();
-    print!(rt; "{name},{cases},{differing}")?;
-    for number in 0..14u16 {
-        let answered = outcomes.iter().filter(|o| o.answer == number).count();
-        print!(rt; ",{answered}")?;
+    let taken = outcomes.iter().filter(|o| o.answer.is_ok()).count();
+    print!(rt; "{name},{cases},{differing},{taken}")?;
+    for number in 1..14u16 {
+        let refused = outcomes.iter().filter(|o| o.answer == Err(number)).count();
+        print!(rt; ",{refused}")?;
     }
     print!(rt; "\n")
 }

@@ -1,4 +1,4 @@
-// Texts that are written down, each a row of a table with the number that it is to be answered with: document 01's examples and
+// Texts that are written down, each a row of a table with the answer that it is to be given: document 01's examples and
 // others of their kind, and texts at the limits.
 use crate::areas::SPAN;
 use crate::calls::{Loaded, read_profile};
@@ -18,18 +18,18 @@ pub(crate) struct Row {
     ends: Option<usize>,
     after: usize,
     tail: usize,
-    pub(crate) number: u16,
+    pub(crate) answer: Result<(), u16>,
 }
 
 // A text with these values.
-pub(crate) fn values(n: u32, m: u32, start: u32, lines: u16, number: u16) -> Row {
+pub(crate) fn values(n: u32, m: u32, start: u32, lines: u16, answer: Result<(), u16>) -> Row {
     Row {
         written: Written {
             n,
             m,
             start,
             lines,
-            replaced: Replaced::Nothing,
+            replaced: None,
             width: UNPADDED,
         },
         vertices: 1,
@@ -37,56 +37,56 @@ pub(crate) fn values(n: u32, m: u32, start: u32, lines: u16, number: u16) -> Row
         ends: None,
         after: SPAN,
         tail: SPAN,
-        number,
+        answer,
     }
 }
 
 // The text of 44 bytes of one vertex and its loop, with a byte spoilt: not in form.
 pub(crate) fn with_spoilt(place: usize, spoilt: Spoilt) -> Row {
-    let mut row = values(1, 1, 1, 1, 12);
+    let mut row = values(1, 1, 1, 1, Err(12));
     row.spoilt = Some((place, spoilt));
     row
 }
 
 // The same text with a value in place of its from or its to.
-pub(crate) fn with_value(replaced: Replaced, number: u16) -> Row {
-    let mut row = values(1, 1, 1, 1, number);
-    row.written.replaced = replaced;
+pub(crate) fn with_value(replaced: Replaced, answer: Result<(), u16>) -> Row {
+    let mut row = values(1, 1, 1, 1, answer);
+    row.written.replaced = Some(replaced);
     row
 }
 
 // A text of n vertices and m loops, with a zero in front of the number at a place.
-fn with_zero(n: u32, m: u16, place: usize, number: u16) -> Row {
-    let mut row = values(n, u32::from(m), 1, m, number);
+fn with_zero(n: u32, m: u16, place: usize, answer: Result<(), u16>) -> Row {
+    let mut row = values(n, u32::from(m), 1, m, answer);
     row.spoilt = Some((place, Spoilt::Preceded(b'0')));
     row
 }
 
 // A text of two vertices and an edge, read into areas of these lengths.
-fn into_areas(after: usize, tail: usize, number: u16) -> Row {
-    let mut row = values(2, 1, 2, 1, number);
+fn into_areas(after: usize, tail: usize, answer: Result<(), u16>) -> Row {
+    let mut row = values(2, 1, 2, 1, answer);
     row.after = after;
     row.tail = tail;
     row
 }
 
 // A text at a limit, its edges between so many vertices.
-pub(crate) fn at_limit(n: u32, m: u32, lines: u16, vertices: u16, number: u16) -> Row {
-    let mut row = values(n, m, 1, lines, number);
+pub(crate) fn at_limit(n: u32, m: u32, lines: u16, vertices: u16, answer: Result<(), u16>) -> Row {
+    let mut row = values(n, m, 1, lines, answer);
     row.vertices = vertices;
     row
 }
 
 // 16,373 lines of four bytes, and the place of the last byte.
-fn longest(n: u32, place: usize, number: u16) -> Row {
-    let mut row = values(n, 16373, 1, 16373, number);
+fn longest(n: u32, place: usize, answer: Result<(), u16>) -> Row {
+    let mut row = values(n, 16373, 1, 16373, answer);
     row.ends = place.checked_add(1);
     row
 }
 
 // The same, with another byte for the last line feed.
-fn longest_spoilt(n: u32, place: usize, number: u16) -> Row {
-    let mut row = longest(n, place, number);
+fn longest_spoilt(n: u32, place: usize, answer: Result<(), u16>) -> Row {
+    let mut row = longest(n, place, answer);
     row.spoilt = Some((place, Spoilt::Replaced(b';')));
     row
 }
@@ -102,25 +102,25 @@ fn filled(row: Row, width: usize, ends: usize) -> Row {
 // No edge, loops, repeated edges; 1, 3, 4, 6; numbers of lines and numbers that are not in form.
 fn rows_of_values() -> [Row; 19] {
     [
-        values(1, 0, 1, 0, 0),
-        values(1, 1, 1, 1, 0),
-        values(2, 3, 2, 3, 0),
-        values(0, 0, 0, 0, 1),
-        values(65535, 0, 1, 0, 1),
-        values(65536, 0, 1, 0, 12),
-        values(100000, 0, 1, 0, 12),
-        values(1, 65535, 1, 1, 12),
-        values(1, 1, 1, 0, 12),
-        values(1, 1, 1, 2, 12),
-        values(2, 0, 3, 0, 4),
-        values(2, 1, 0, 1, 4),
-        with_value(Replaced::From(0, 0), 6),
-        with_value(Replaced::To(0, 2), 6),
-        with_value(Replaced::To(0, 65535), 6),
-        with_value(Replaced::To(0, 65536), 12),
-        into_areas(3, 1, 0),
-        into_areas(2, 1, 3),
-        into_areas(3, 0, 3),
+        values(1, 0, 1, 0, Ok(())),
+        values(1, 1, 1, 1, Ok(())),
+        values(2, 3, 2, 3, Ok(())),
+        values(0, 0, 0, 0, Err(1)),
+        values(65535, 0, 1, 0, Err(1)),
+        values(65536, 0, 1, 0, Err(12)),
+        values(100000, 0, 1, 0, Err(12)),
+        values(1, 65535, 1, 1, Err(12)),
+        values(1, 1, 1, 0, Err(12)),
+        values(1, 1, 1, 2, Err(12)),
+        values(2, 0, 3, 0, Err(4)),
+        values(2, 1, 0, 1, Err(4)),
+        with_value(Replaced::From(0, 0), Err(6)),
+        with_value(Replaced::To(0, 2), Err(6)),
+        with_value(Replaced::To(0, 65535), Err(6)),
+        with_value(Replaced::To(0, 65536), Err(12)),
+        into_areas(3, 1, Ok(())),
+        into_areas(2, 1, Err(3)),
+        into_areas(3, 0, Err(3)),
     ]
 }
 
@@ -136,8 +136,8 @@ fn rows_of_damage() -> [Row; 20] {
         with_spoilt(43, Spoilt::Preceded(b'\r')),
         with_spoilt(25, Spoilt::Preceded(b'\r')),
         with_spoilt(27, Spoilt::Doubled),
-        with_zero(1000, 0, 26, 0),
-        with_zero(65535, 0, 26, 12),
+        with_zero(1000, 0, 26, Ok(())),
+        with_zero(65535, 0, 26, Err(12)),
         with_spoilt(26, Spoilt::Preceded(b'+')),
         with_spoilt(30, Spoilt::Preceded(b'-')),
         with_spoilt(30, Spoilt::Preceded(b' ')),
@@ -155,15 +155,15 @@ fn rows_of_damage() -> [Row; 20] {
 // n has a digit more; in form, and with another byte for the last line feed.
 fn limit_rows() -> [Row; 9] {
     [
-        at_limit(1000, 4000, 4000, 1000, 0),
-        at_limit(1001, 4000, 4000, 1001, 1),
-        at_limit(1000, 4001, 4001, 1000, 2),
-        at_limit(1000, 4001, 4000, 1000, 12),
-        at_limit(1000, 4000, 4001, 1000, 12),
-        longest(9, 65535, 2),
-        longest(10, 65536, 13),
-        longest_spoilt(9, 65535, 12),
-        longest_spoilt(10, 65536, 13),
+        at_limit(1000, 4000, 4000, 1000, Ok(())),
+        at_limit(1001, 4000, 4000, 1001, Err(1)),
+        at_limit(1000, 4001, 4001, 1000, Err(2)),
+        at_limit(1000, 4001, 4000, 1000, Err(12)),
+        at_limit(1000, 4000, 4001, 1000, Err(12)),
+        longest(9, 65535, Err(2)),
+        longest(10, 65536, Err(13)),
+        longest_spoilt(9, 65535, Err(12)),
+        longest_spoilt(10, 65536, Err(13)),
     ]
 }
 
@@ -172,21 +172,21 @@ fn limit_rows() -> [Row; 9] {
 fn padded_rows() -> [Row; 15] {
     let zero = Spoilt::Preceded(b'0');
     [
-        values(99999, 0, 1, 0, 12),
-        with_zero(1, 1, 26, 0),
-        with_zero(1, 1, 40, 0),
-        filled(values(12, 0, 12, 0, 0), PADDED, 52),
-        filled(values(1, 1, 1, 1, 0), PADDED, 64),
-        filled(values(1, 1, 1, 1, 12), 6, 69),
+        values(99999, 0, 1, 0, Err(12)),
+        with_zero(1, 1, 26, Ok(())),
+        with_zero(1, 1, 40, Ok(())),
+        filled(values(12, 0, 12, 0, Ok(())), PADDED, 52),
+        filled(values(1, 1, 1, 1, Ok(())), PADDED, 64),
+        filled(values(1, 1, 1, 1, Err(12)), 6, 69),
         filled(with_spoilt(26, zero), PADDED, 65),
         filled(with_spoilt(32, zero), PADDED, 65),
         filled(with_spoilt(38, zero), PADDED, 65),
         filled(with_spoilt(52, zero), PADDED, 65),
         filled(with_spoilt(58, zero), PADDED, 65),
-        filled(at_limit(1000, 8186, 8186, 1, 2), 3, 65536),
-        filled(at_limit(10000, 8186, 8186, 1, 13), 3, 65537),
-        filled(at_limit(1, 5457, 5457, 1, 2), PADDED, 65536),
-        filled(at_limit(1000, 4000, 4000, 1000, 0), PADDED, 48052),
+        filled(at_limit(1000, 8186, 8186, 1, Err(2)), 3, 65536),
+        filled(at_limit(10000, 8186, 8186, 1, Err(13)), 3, 65537),
+        filled(at_limit(1, 5457, 5457, 1, Err(2)), PADDED, 65536),
+        filled(at_limit(1000, 4000, 4000, 1000, Ok(())), PADDED, 48052),
     ]
 }
 
@@ -214,7 +214,7 @@ impl Row {
         let text = self.text(alloc)?;
         let outcome = read_twice(alloc, &text, self.after, self.tail)?;
         let differs = self.ends.is_some_and(|end| end != text.len());
-        Ok(outcome.expected(self.number).also(differs))
+        Ok(outcome.expected(self.answer).also(differs))
     }
 }
 
@@ -234,6 +234,6 @@ fn printed_profile() -> Outcome {
 // The rows, and the printed profile.
 pub(crate) fn cases(group: &mut Group) -> Result<(), AllocError> {
     let alloc = group.alloc;
-    group.add_rows(&rows(alloc)?, |row| row.read(alloc))?;
+    group.add_each(rows(alloc)?.iter(), |row| row.read(alloc))?;
     group.add(printed_profile())
 }

@@ -1,4 +1,4 @@
-// Texts whose walk is written down, or whose number: document 01's example, as it stands and padded, the rows of the table of texts, a
+// Texts whose walk is written down, or whose answer: document 01's example, as it stands and padded, the rows of the table of texts, a
 // chain of 1,000 vertices, a ring of them and the longest walk, profiles with a circle and without, areas that are too short and outputs
 // as short as the line of a refusal.
 use crate::listing::Line;
@@ -24,7 +24,7 @@ const PRINTED: &str =
 fn printed_case(alloc: Global, profile: &[u8]) -> Result<Outcome, AllocError> {
     let walked = compare_walk(alloc, profile, Lent::ALL)?;
     let differs = walked.printed.as_str() != PRINTED;
-    Ok(walked.outcome.expected(0).also(differs))
+    Ok(walked.outcome.expected(Ok(())).also(differs))
 }
 
 // The lines of a chain: 1 to 2, 2 to 3 and on, and from 1,000 to 1 again.
@@ -46,7 +46,7 @@ pub(crate) fn between_all(m: u16, width: usize) -> Written {
         m: u32::from(m),
         start: 1,
         lines: m,
-        replaced: Replaced::Nothing,
+        replaced: None,
         width,
     }
 }
@@ -66,7 +66,7 @@ fn chain_case(alloc: Global, m: u16, events: usize, counts: Counts) -> Result<Ou
     let text = between_all(m, UNPADDED).text(alloc, &listing)?;
     let walked = compare_walk(alloc, text.as_bytes(), Lent::ALL)?;
     let differs = walked.events != events || walked.counts != counts;
-    Ok(walked.outcome.expected(0).also(differs))
+    Ok(walked.outcome.expected(Ok(())).also(differs))
 }
 
 // A profile, from its first values on, with what is counted.
@@ -95,55 +95,70 @@ fn told_case(alloc: Global, told: &Told) -> Result<Outcome, AllocError> {
     text.push_str(told.values)?;
     let walked = compare_walk(alloc, text.as_bytes(), Lent::ALL)?;
     let counts = counted(told.labelled, told.moves, told.circular);
-    Ok(walked.outcome.expected(0).also(walked.counts != counts))
+    Ok(
+        walked
+            .outcome
+            .expected(Ok(()))
+            .also(walked.counts != counts),
+    )
 }
 
-// The text of a row of the table of texts, with the number that it is to be answered with.
-fn row_case(alloc: Global, row: &Row, lengths: Lent, number: u16) -> Result<Outcome, AllocError> {
+// The text of a row of the table of texts, with the answer that it is to be given.
+fn row_case(
+    alloc: Global,
+    row: &Row,
+    lengths: Lent,
+    answer: Result<(), u16>,
+) -> Result<Outcome, AllocError> {
     let text = row.text(alloc)?;
     Ok(
         compare_walk(alloc, &text, lengths)?
             .outcome
-            .expected(number),
+            .expected(answer),
     )
 }
 
-// The rows of the table of texts, as they are answered there. An area is as long as stated, or one word shorter where the answer is 3.
+// The rows of the table of texts, as they are answered there. An area is as long as stated, or one word shorter where the refusal is 3.
 fn text_cases(group: &mut Group) -> Result<(), AllocError> {
     let alloc = group.alloc;
     let rows = rows(alloc)?;
     for (row, area) in rows.iter().zip(AREAS.iter().cycle()) {
         let lengths = Lent {
             one: Some(*area),
-            less: if row.number == 3 { 1 } else { 0 },
+            less: if row.answer == Err(3) { 1 } else { 0 },
         };
-        group.add(row_case(alloc, row, lengths, row.number)?)?;
+        group.add(row_case(alloc, row, lengths, row.answer)?)?;
     }
     Ok(())
 }
 
 // One area so many words short, in turn.
-fn short_cases(group: &mut Group, row: &Row, less: usize, number: u16) -> Result<(), AllocError> {
+fn short_cases(
+    group: &mut Group,
+    row: &Row,
+    less: usize,
+    answer: Result<(), u16>,
+) -> Result<(), AllocError> {
     let alloc = group.alloc;
     for area in AREAS {
         let lengths = Lent {
             one: Some(area),
             less,
         };
-        group.add(row_case(alloc, row, lengths, number)?)?;
+        group.add(row_case(alloc, row, lengths, answer)?)?;
     }
     Ok(())
 }
 
 // Outputs of 12 to 8 bytes, some with room for the line of the refusal: it is not printed.
-fn output_cases(group: &mut Group, row: &Row, number: u16) -> Result<(), AllocError> {
+fn output_cases(group: &mut Group, row: &Row, answer: Result<(), u16>) -> Result<(), AllocError> {
     let alloc = group.alloc;
     for less in 180054..180059usize {
         let lengths = Lent {
             one: Some(Area::Output),
             less,
         };
-        group.add(row_case(alloc, row, lengths, number)?)?;
+        group.add(row_case(alloc, row, lengths, answer)?)?;
     }
     Ok(())
 }
@@ -152,28 +167,28 @@ fn output_cases(group: &mut Group, row: &Row, number: u16) -> Result<(), AllocEr
 // short outputs.
 fn all_short_cases(group: &mut Group) -> Result<(), AllocError> {
     let spoilt = with_spoilt(36, Spoilt::Replaced(b';'));
-    let stray = with_value(Replaced::From(0, 0), 6);
-    let largest = at_limit(1000, 4000, 4000, 1000, 0);
-    short_cases(group, &values(1, 1, 1, 1, 0), 1, 3)?;
-    short_cases(group, &spoilt, 1, 12)?;
-    short_cases(group, &values(0, 0, 0, 0, 1), 1, 1)?;
-    short_cases(group, &values(2, 0, 3, 0, 4), 1, 3)?;
-    short_cases(group, &stray, 1, 3)?;
-    short_cases(group, &largest, 1, 3)?;
-    short_cases(group, &largest, 0, 0)?;
-    output_cases(group, &stray, 3)?;
-    output_cases(group, &spoilt, 12)
+    let stray = with_value(Replaced::From(0, 0), Err(6));
+    let largest = at_limit(1000, 4000, 4000, 1000, Ok(()));
+    short_cases(group, &values(1, 1, 1, 1, Ok(())), 1, Err(3))?;
+    short_cases(group, &spoilt, 1, Err(12))?;
+    short_cases(group, &values(0, 0, 0, 0, Err(1)), 1, Err(1))?;
+    short_cases(group, &values(2, 0, 3, 0, Err(4)), 1, Err(3))?;
+    short_cases(group, &stray, 1, Err(3))?;
+    short_cases(group, &largest, 1, Err(3))?;
+    short_cases(group, &largest, 0, Ok(()))?;
+    output_cases(group, &stray, Err(3))?;
+    output_cases(group, &spoilt, Err(12))
 }
 
 // All of these.
 pub(crate) fn cases(group: &mut Group) -> Result<(), AllocError> {
     let alloc = group.alloc;
-    group.add_rows(&PROFILES, |profile| printed_case(alloc, profile))?;
+    group.add_each(PROFILES.iter(), |profile| printed_case(alloc, profile))?;
     group.add(chain_case(alloc, 999, 11994, counted(1000, 2998, false))?)?;
     // All 4,000 edges, four times round: no walk has more moves.
     group.add(chain_case(alloc, 4000, 30000, counted(1000, 9000, true))?)?;
     all_short_cases(group)?;
     group.add(chain_case(alloc, 1000, 12000, counted(1000, 3000, true))?)?;
-    group.add_rows(&TOLD, |told| told_case(alloc, told))?;
+    group.add_each(TOLD.iter(), |told| told_case(alloc, told))?;
     text_cases(group)
 }

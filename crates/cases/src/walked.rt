@@ -166,7 +166,7 @@ fn walk_drawn(alloc: Global, text: &[u8], seed: u16) -> Result<Outcome, AllocErr
 // Texts in form.
 pub(crate) fn sound_cases(group: &mut Group) -> Result<(), AllocError> {
     let alloc = group.alloc;
-    group.add_draws(0..=1999, |i| {
+    group.add_each(0..=1999u16, |i| {
         let seed = other_seed(i, 4);
         let text = draw_listed(alloc, seed)?;
         walk_drawn(alloc, text.as_bytes(), seed)
@@ -176,7 +176,7 @@ pub(crate) fn sound_cases(group: &mut Group) -> Result<(), AllocError> {
 // Damaged texts.
 pub(crate) fn damaged_cases(group: &mut Group) -> Result<(), AllocError> {
     let alloc = group.alloc;
-    group.add_draws(0..=3999, |i| {
+    group.add_each(0..=3999u16, |i| {
         let seed = other_seed(i, 4);
         let text = draw_damaged(alloc, seed)?;
         walk_drawn(alloc, &text, seed)

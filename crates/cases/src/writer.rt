@@ -16,20 +16,19 @@ pub(crate) const NAMES: &str = "from,to\n";
 // A value in place of the from or of the to of a line, counted from 0.
 #[derive(Clone, Copy)]
 pub(crate) enum Replaced {
-    Nothing,
     From(u16, u32),
     To(u16, u32),
 }
 
 // What is written of a listing: the sizes and the start that the text states, how many lines it has, a value that is put in place of
-// another, and how many digits every number has at least.
+// another or none, and how many digits every number has at least.
 #[derive(Clone, Copy)]
 pub(crate) struct Written {
     pub(crate) n: u32,
     pub(crate) m: u32,
     pub(crate) start: u32,
     pub(crate) lines: u16,
-    pub(crate) replaced: Replaced,
+    pub(crate) replaced: Option<Replaced>,
     pub(crate) width: usize,
 }
 
@@ -40,8 +39,8 @@ impl Written {
         let from = line.map_or(0, |line| u32::from(line.from));
         let to = line.map_or(0, |line| u32::from(line.to));
         match self.replaced {
-            Replaced::From(at, value) if at == i => (value, to),
-            Replaced::To(at, value) if at == i => (from, value),
+            Some(Replaced::From(at, value)) if at == i => (value, to),
+            Some(Replaced::To(at, value)) if at == i => (from, value),
             _ => (from, to),
         }
     }
@@ -59,6 +58,7 @@ impl Written {
         let mut text = String::from_str(alloc, HEAD)?;
         write!(text, "{n:0width$},{m:0width$},{start:0width$}\n")?;
         text.push_str(NAMES)?;
+        // By number: lines past those of the listing are written too.
         for i in 0..lines {
             let (from, to) = self.ends(i, listing);
             write!(text, "{from:0width$},{to:0width$}\n")?;
