@@ -121,20 +121,15 @@ pub(crate) fn room_cases(group: &mut Group) -> Result<(), AllocError> {
     group.add_each(0..=3999u16, |seed| placed_case(alloc, seed))
 }
 
-// The number at a place: first the end of its digits is found, then what they are worth.
+// The number at a place: the shortest run of bytes behind which no digit stands, if it is of five at most and begins with a digit.
 fn take_number(text: &[u8], at: usize) -> Option<(u16, usize)> {
     let rest = text.get(at..)?;
-    let count = rest.iter().take_while(|b| b.is_ascii_digit()).count();
-    if 5 < count {
+    let is_digit = |k: usize| matches!(rest.get(k), Some(b'0'..=b'9'));
+    if !is_digit(0) {
         return None;
     }
-<<<<<<< HEAD
-    let digits = str::from_utf8(rest.get(..count)?).ok()?;
-    let value = digits.parse().ok()?;
-=======
     let count = (1..6usize).find(|k| !is_digit(*k))?;
     let value = str::from_utf8(rest.get(..count)?).ok()?.parse().ok()?;
->>>>>>> c7c70a69060ea1d7f6e8a74c7ec320f1f37aa77e
     Some((value, at.checked_add(count)?))
 }
 

@@ -1,4 +1,4 @@
-// Linked images judged a second way: words are counted, no flags are kept.
+// Linked images judged a second way: no flags are kept.
 use crate::areas::of_node;
 use crate::calls::{check_image, tail_out};
 use crate::tally::Outcome;

@@ -1,4 +1,4 @@
-// The array form judged and asked a second way: words are counted, and each position is asked whether it is of the vertex.
+// The array form judged and asked a second way: each position is asked whether it is of the vertex.
 use crate::areas::{SPAN, of_node, part, store, word};
 use crate::calls::{check_query, edges_out};
 use crate::chance::draw_below;
