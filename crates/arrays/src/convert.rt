@@ -25,7 +25,7 @@ fn list_edges(g: &Image, u: Vertex, tails: &mut [u16], numbers: &mut [u16], p: u
     // Each edge is known only from the one before it, and the position past them is given.
     while r != 0 {
         let i = q as usize - 1;
-        let k = (r - g.n) as usize - 1;
+        let k = r as usize - g.n as usize - 1;
         tails[i] = g.tail[k];
         numbers[i] = r;
         q += 1;

@@ -153,7 +153,7 @@ pub(crate) fn other_sizes(seed: u16) -> Sizes {
 // one less than none.
 pub(crate) fn draw_length(seed: u16, at: u16, least: usize) -> usize {
     match draw(seed, at, 24) {
-        0 => draw_below(seed, at.wrapping_add(100), least),
+        0 => draw(seed, at.wrapping_add(100), word(least)).into(),
         1 => least.checked_sub(1).unwrap_or(SPAN),
         _ => least.saturating_add(draw_below(seed, at.wrapping_add(200), 4)),
     }

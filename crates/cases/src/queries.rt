@@ -1,7 +1,7 @@
 // The array form judged and asked a second way: each position is asked whether it is of the vertex.
-use crate::areas::{SPAN, of_node, part, store, word};
+use crate::areas::{SPAN, of_node, part, store};
 use crate::calls::{check_query, edges_out};
-use crate::chance::draw_below;
+use crate::chance::draw;
 use crate::drawn::{damage, damaged_place, draw_length, draw_sizes, other_seed, other_sizes};
 use crate::image::{Sizes, are_vertices};
 use crate::listing::{draw_listing, first_positions, ordered_tails};
@@ -147,7 +147,7 @@ impl Query {
 
 // A vertex by chance: 0, one of the n vertices, or the one past them.
 fn draw_u(seed: u16, n: u16) -> u16 {
-    word(draw_below(seed, 19, usize::from(n) + 2))
+    draw(seed, 19, n.wrapping_add(2))
 }
 
 // Sound array forms.

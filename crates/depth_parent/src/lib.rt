@@ -44,7 +44,7 @@ fn advance(
         marks.new parents.new events.new result }
     ensures words { total result.tally ≡ 2 + total p.tally }
 {
-    let x = g.tail[(p.e.0 - g.n) as usize - 1];
+    let x = g.tail[p.e.0 as usize - g.n as usize - 1];
     let i = x as usize - 1;
     if marks[i] == 0 {
         let a = emit(events, Kind::AdvanceTree as u16, p.e, p.v, p.tally);
@@ -86,7 +86,7 @@ fn retreat(
     let u = if f == 0 {
         start
     } else {
-        Vertex(g.tail[(f - g.n) as usize - 1])
+        Vertex(g.tail[f as usize - g.n as usize - 1])
     };
     let tally = emit(events, Kind::RetreatTree as u16, p.f, u, a);
     Place {

@@ -51,7 +51,7 @@ fn traverse_edge(
     requires { CanTraverse (image_of g.now) r.0 u.0 marks.old events.old tally }
     ensures { Traverses (image_of g.now) r.0 u.0 marks.old events.old tally marks.new events.new result }
 {
-    let x = g.tail[(r.0 - g.n) as usize - 1];
+    let x = g.tail[r.0 as usize - g.n as usize - 1];
     if marks[x as usize - 1] == 0 {
         let a = emit(events, Kind::AdvanceTree as u16, r, u, tally);
         let b = search_vertex(g, Vertex(x), marks, events, a);

@@ -233,8 +233,8 @@ const STEP_ROWS: [StepRow; 7] = [
     },
 ];
 
-// The after words.
-const LINKS: [u16; 5] = [4, 0, 0, 5, 0];
+// The after words of the five nodes, and four words behind them.
+const LINKS: [u16; 9] = [4, 0, 0, 5, 0, 4, 0, 0, 5];
 
 // The marks of nodes 1 and 3 to 5, and what the last step of a roll-back leaves of them.
 const FIRST_MARK: u16 = 33333;
@@ -265,7 +265,9 @@ fn run_example(
     put_first(&mut second.links.tail, &[step.tail, 3]);
     put_first(
         &mut second.marks,
-        &[FIRST_MARK, marks.mark, third, fourth, fifth],
+        &[
+            FIRST_MARK, marks.mark, third, fourth, fifth, FIRST_MARK, 0, third, fourth,
+        ],
     );
     case.compare(Call::Step)?;
     let (first, left) = match step.kind {

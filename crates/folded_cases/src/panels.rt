@@ -90,16 +90,53 @@ enum Happened {
     Shift,
 }
 
+// The figure as its high and its low word.
+#[derive(Clone, Copy)]
+struct Figure {
+    high: u16,
+    low: u16,
+}
+
+impl Figure {
+    fn of(figure: u32) -> Figure {
+        Figure {
+            high: (figure >> 16) as u16,
+            low: (figure & 65535) as u16,
+        }
+    }
+
+    // 999,999 is 15 times 65,536 and 16,959.
+    fn is_full(self) -> bool {
+        self.high > 15 || self.high == 15 && self.low >= 16959
+    }
+
+    // One more card: the low word goes round, and then the high one is one more.
+    fn raised(self) -> Figure {
+        let low = self.low.wrapping_add(1);
+        let high = if low == 0 {
+            self.high.wrapping_add(1)
+        } else {
+            self.high
+        };
+        Figure { high, low }
+    }
+
+    fn whole(self) -> u32 {
+        u32::from(self.high) << 16 | u32::from(self.low)
+    }
+}
+
 // Accepts a state on a figure: the state and the figure after, or the number that is shown.
 fn accept(state: State, figure: u32) -> Result<(State, u32), u16> {
     state.check_all(false)?;
     match state.phase {
         ENDED => {
-            if 999999 <= figure {
+            let figure = Figure::of(figure);
+            if figure.is_full() {
                 return Err(11);
             }
             let phase = ACCEPTED;
-            Ok((State { phase, ..state }, figure + 1))
+            Ok((State { phase, ..state }, figure.raised().whole()))
         }
         WITHDRAWN | ACCEPTED => Err(9),
         _ => Err(10),

@@ -50,7 +50,7 @@ fn flag_list(g: &Image, first: u16, flags: &mut [u8], count: u16) -> Option<u16>
     let mut c = count;
     while r != 0 {
         let next = g.after[r as usize - 1];
-        let k = (r - g.n) as usize - 1;
+        let k = r as usize - g.n as usize - 1;
         if flags[k] != 0 {
             return None;
         }

@@ -61,7 +61,9 @@ pub fn read_number(text: &[u8], at: usize) -> Option<Number>
     ensures { number_found result ≡ number_at text.now at }
 {
     let rest = text.get(at..)?;
-    let count = digits_ahead(rest);
+    // One digit too many is enough to tell: what stands behind it is not read.
+    let most = rest.len().min(MOST_DIGITS + 1);
+    let count = digits_ahead(&rest[..most]);
     if count == 0 || count > MOST_DIGITS {
         return None;
     }

@@ -32,18 +32,16 @@ impl Form {
         }
     }
 
-    // Whether a list of this form has vertex x on it, where that is not the start.
-    fn has(self, plan: Plan, profile: &Profile, x: u16) -> bool {
+    // Whether a list of this form has vertex x on it, where that is not the start; `near` tells of each vertex whether it is a neighbour
+    // of the start.
+    fn has(self, plan: Plan, near: &[bool], x: u16) -> bool {
         let place = LISTED + u32::from(x);
         match self {
             Form::Given => false,
             Form::One => x == plan.seed.draw_from_one(ONE, plan.vertices),
             Form::Few => plan.seed.draw(place, 4) == 0,
             Form::Others => true,
-            Form::Neighbours => profile
-                .edges
-                .iter()
-                .any(|edge| edge.from == plan.start && edge.to == x),
+            Form::Neighbours => near.get(usize::from(x)).copied().unwrap_or(false),
             Form::Last => x == plan.vertices,
             Form::Half => plan.seed.draw(place, 2) == 0,
         }
@@ -56,8 +54,9 @@ impl Form {
         plan: Plan,
         profile: &Profile,
     ) -> Result<Vec<u16>, AllocError> {
+        let near = profile.neighbours(alloc, plan.start)?;
         (1..=plan.vertices)
-            .filter(|x| *x != plan.start && self.has(plan, profile, *x))
+            .filter(|x| *x != plan.start && self.has(plan, &near, *x))
             .collect(alloc)
     }
 }

@@ -10,5 +10,6 @@ pub use depth_array::dfs_array;
 pub use depth_parent::dfs_parent;
 pub use depth_recursive::dfs_recursive;
 pub use folded::{run, step};
+pub use refusals::Refusal;
 pub use scripts::{Replayed, replay};
 pub use states::{Phase, Reason, Reply, State, check_state, open, roll_back};
