@@ -1,7 +1,8 @@
 -- What the loops of the numbers' code keep: the value of the digits read so far, the digits put so far.
-use Rattle.std.proofs.Common.{◌≡◌, refl, sym, ap, subst, ◌∙◌, Bool, true, false, cond, List, [], ◌∷◌, ◌++◌, append-nil, ℕ, zero, suc, ◌+◌, ◌-◌, ◌*◌, ◌/◌, ◌%◌, ◌^◌, ◌≤◌, ◌<◌, ◌⊎◌, inl, inr, leb, add-one, arith, min, length, length-take, take, drop, get_or, set, take_while, take_all, drop_of_length-le, lt-ltb, le-leb, slice_range, length-drop, Result, Ok, Err, Some, None, OkIff}
+use Rattle.std.proofs.Common.{◌≡◌, refl, sym, ap, subst, ◌∙◌, Bool, true, false, cond, List, [], ◌∷◌, ◌++◌, append-nil, ℕ, zero, suc, ◌+◌, ◌-◌, ◌*◌, ◌/◌, ◌%◌, ◌^◌, ◌≤◌, ◌<◌, ◌⊎◌, inl, inr, leb, ltb, add-one, arith, min, length, length-take, take, drop, get_or, set, take_while, take_all, drop_of_length-le, lt-ltb, le-leb, slice_range, length-drop, Result, Ok, Err, Some, None, OkIff}
 use Rattle.std.specs.Result.{result_ok}
 use Rattle.std.proofs.Math.Option.{none, some}
+use mathlib.Core.Bool.{and-false}
 use borrow.Author.Tests.{lt-leb}
 use Rattle.std.proofs.lemmas.List.{take_more}
 use Rattle.std.proofs.lemmas.List.Sums.{take_while-cons, prefix_len-le-length}
@@ -11,7 +12,7 @@ use lib.Seq.{append_snoc}
 use Rattle.lists.specs.Words.{pasted}
 use Rattle.lists.proofs.Tests.{and-true}
 use Rattle.lists.proofs.Words.{pasted-none, pasted-before}
-use Rattle.numbers.specs.Decimal.{decimal_length, digits, written, put_at, past_at, is_digit, digits_ahead, value_after, in_form, field_of, number_at}
+use Rattle.numbers.specs.Decimal.{decimal_length, digits, written, put_at, past_at, is_digit, digits_ahead, value_after, few, in_form, field_of, number_at}
 use Rattle.numbers.proofs.Numbers.{length-claim, number-claim, number-here, value-append, Digit, AllDigits, ahead-all}
 
 -- ---- a number read
@@ -30,6 +31,14 @@ pub record Value (ds : List ℕ) (i value : ℕ) : Type 0 where
   pub is : value ≡ value_after 0 (take i ds)
   pub below : value < 10 ^ i
 
+-- The bytes behind place `at`, and how many of them, from the first on, are digits.
+pub record Ahead (text : List ℕ) (at : ℕ) (rest : List ℕ) (count : ℕ) : Type 0 where
+  pub behind : rest ≡ drop at text
+  pub number : count ≡ length (take_while is_digit rest)
+
+pub ahead-of : {text rest : List ℕ} {at count : ℕ} → rest ≡ slice_range text at (length text) → count ≡ length (take_while is_digit rest) → Ahead text at rest count
+ahead-of {text} {rest} {at} e n = record { behind = e ∙ take_all (length text - at) (drop at text) (omega (arith, length-drop at text)); number = n }
+
 -- Of the first k bytes the digits ahead are the first k at most.
 ahead-take : (k : ℕ) (l : List ℕ) → digits_ahead (take k l) ≡ take k (digits_ahead l)
 ahead-take zero l = refl
@@ -40,40 +49,42 @@ ahead-take (suc k) (b ∷ l) = go (is_digit b) (ahead-take k l)
     go true e = ap (λ (r : List ℕ). b ∷ r) e
     go false e = refl
 
--- The bytes behind place `at`, and how many of them, from the first on, are digits; of more than five it is told that they are.
-pub record Ahead (text : List ℕ) (at : ℕ) (rest : List ℕ) (count : ℕ) : Type 0 where
-  pub behind : rest ≡ drop at text
-  pub number : count ≤ 5 → count ≡ length (take_while is_digit rest)
-  pub many : 5 < count → 5 < length (take_while is_digit rest)
+-- The digits counted among the first `room` bytes of those behind place `at`, more than five: up to five they are all.
+pub record Counted (text : List ℕ) (at : ℕ) (rest : List ℕ) (count : ℕ) : Type 0 where
+  pub all : count ≤ 5 → Ahead text at rest count
+  pub many : 5 < count → none ≡ number_at text at
 
-pub ahead-of : {text rest : List ℕ} {at room most count : ℕ} → rest ≡ slice_range text at (length text) → 5 < room → most ≡ min (length rest) room
-    → count ≡ length (take_while is_digit (take most rest)) → Ahead text at rest count
-ahead-of {text} {rest} {at} {room} {most} {count} e r m n =
+pub counted-of : {text rest : List ℕ} {at room most count : ℕ} → rest ≡ slice_range text at (length text) → 5 < room → most ≡ min (length rest) room
+    → count ≡ length (take_while is_digit (take most rest)) → Counted text at rest count
+counted-of {text} {rest} {at} {room} {most} {count} e r m n =
     let ds = take_while is_digit rest in
-    let all : length ds ≤ length rest = omega (arith, length-prefix_len is_digit rest, prefix_len-le-length is_digit rest) in
+    let short : length ds ≤ length rest = omega (arith, length-prefix_len is_digit rest, prefix_len-le-length is_digit rest) in
     let told : count ≡ min most (length ds) =
     n ∙ ap length (sym (ahead-taken (take most rest)) ∙ ahead-take most rest ∙ ap (take most) (ahead-taken rest)) ∙ length-take most ds in
-    record { behind = e ∙ take_all (length text - at) (drop at text) (omega (arith, length-drop at text)); number = λ h. omega (arith, r, told, m, all); many = λ h. omega (arith, r, told, m, all) }
+    let here : rest ≡ drop at text = e ∙ take_all (length text - at) (drop at text) (omega (arith, length-drop at text)) in
+    record {
+      all = λ l. ahead-of e (omega (arith, r, told, m, short));
+      many = λ l. sym (number-claim.too_long text at (subst (λ (l : List ℕ). 5 < length l) (sym (ahead-taken rest) ∙ ap digits_ahead here) (omega (arith, r, told, m, short))));
+    }
 
 module _ {text rest : List ℕ} {at count : ℕ} (a : Ahead text at rest count) where
-  ahead : count ≤ 5 → digits_ahead (drop at text) ≡ take count rest
-  ahead l = ap digits_ahead (sym a.behind) ∙ ahead-taken rest ∙ ap (λ (k : ℕ). take k rest) (sym (a.number l ∙ length-prefix_len is_digit rest))
+  ahead : digits_ahead (drop at text) ≡ take count rest
+  ahead = ap digits_ahead (sym a.behind) ∙ ahead-taken rest ∙ ap (λ (k : ℕ). take k rest) (sym (a.number ∙ length-prefix_len is_digit rest))
 
-  long : count ≤ 5 → length (take count rest) ≡ count
-  long l = ap length (sym (ahead l) ∙ ap digits_ahead (sym a.behind) ∙ ahead-taken rest) ∙ sym (a.number l)
+  long : length (take count rest) ≡ count
+  long = ap length (sym ahead ∙ ap digits_ahead (sym a.behind) ∙ ahead-taken rest) ∙ sym a.number
 
-  pub reading-digit : {i : ℕ} → i < length (take count rest) → count ≤ 5 → Digit (get_or (take count rest) i 0)
-  reading-digit {i} h l = digit-at (take count rest) i (subst AllDigits (ahead l) (ahead-all (drop at text))) h
+  pub reading-digit : {i : ℕ} → i < length (take count rest) → Digit (get_or (take count rest) i 0)
+  reading-digit {i} h = digit-at (take count rest) i (subst AllDigits ahead (ahead-all (drop at text))) h
 
   pub reading-room : {i value : ℕ} → i < length (take count rest) → count ≤ 5 → Value (take count rest) i value → value < 10000
-  reading-room {i} h l v = let q : i ≤ 4 = omega (arith, long l) in let p : 10 ^ i ≤ 10 ^ 4 = pow-le-pow_right {n = 10} (omega arith) q in omega (arith, v.below)
+  reading-room {i} h l v = let q : i ≤ 4 = omega (arith, long) in let p : 10 ^ i ≤ 10 ^ 4 = pow-le-pow_right {n = 10} (omega arith) q in omega (arith, v.below)
 
-  pub reading-next : {i value : ℕ} → i < length (take count rest) → count ≤ 5 → Value (take count rest) i value
-      → Value (take count rest) (i + 1) (value * 10 + (get_or (take count rest) i 0 - 48))
-  reading-next {i} {value} h l v =
+  pub reading-next : {i value : ℕ} → i < length (take count rest) → Value (take count rest) i value → Value (take count rest) (i + 1) (value * 10 + (get_or (take count rest) i 0 - 48))
+  reading-next {i} {value} h v =
       let ds = take count rest in
       let d = get_or ds i 0 in
-      let b = reading-digit h l in
+      let b = reading-digit h in
       let p : 10 ^ suc i ≡ 10 * 10 ^ i = pow-succ' 10 i in
       record {
         is = ap (λ (w : ℕ). w * 10 + (d - 48)) v.is ∙ sym (ap (value_after 0) (take_more ds i 0 h) ∙ value-append 0 (take i ds) (d ∷ []));
@@ -82,24 +93,31 @@ module _ {text rest : List ℕ} {at count : ℕ} (a : Ahead text at rest count) 
 
   pub number-none : (count ≡ 0) ⊎ ((count ≡ 0 → ⊥) × 5 < count) → none ≡ number_at text at
   unfolding number_at
-  number-none (inl z) = let l : count ≤ 5 = omega arith in sym (ap (λ (ds : List ℕ). field_of ds at) (ahead l) ∙ rw (long l, z) refl)
-  number-none (inr z) = sym (number-claim.too_long text at (subst (λ (ds : List ℕ). 5 < length ds) (sym (ahead-taken rest) ∙ ap digits_ahead a.behind) (a.many z.1)))
+  number-none h = sym (ap (λ (l : List ℕ). field_of l at) ahead ∙ rw (no-few h))
+    where
+      no-few : (count ≡ 0) ⊎ ((count ≡ 0 → ⊥) × 5 < count) → few (take count rest) ≡ false
+      no-few (inl z) = rw (long, z)
+      no-few (inr z) = rw (long, lt-leb count 5 z.1, and-false (ltb 0 count))
 
-  module _ {i value : ℕ} (v : Value (take count rest) i value) (end : length (take count rest) ≤ i) (l : count ≤ 5) where
+  module _ {i value : ℕ} (v : Value (take count rest) i value) (end : length (take count rest) ≤ i) where
     worth : value ≡ value_after 0 (take count rest)
     worth = v.is ∙ ap (value_after 0) (take_all i (take count rest) end)
 
     pub number-over : 65535 < value → none ≡ number_at text at
-    number-over h = sym (number-claim.too_large text at (omega (arith, worth, ap (value_after 0) (ahead l))))
+    number-over h = sym (number-claim.too_large text at (omega (arith, worth, ap (value_after 0) ahead)))
 
-    pub number-read : {x : ℕ} → (count ≡ 0 → ⊥) → (value < 65536) × (x ≡ value) → some (record { value = x; next = at + count }) ≡ number_at text at
-    number-read ne h =
+    pub number-read : {x : ℕ} → (count ≡ 0 → ⊥) → count ≤ 5 → (value < 65536) × (x ≡ value) → some (record { value = x; next = at + count }) ≡ number_at text at
+    number-read ne l h =
         let ds = take count rest in
-        let some-digit : 0 < length ds = omega (arith, long l) in
-        let few-digits : length ds ≤ 5 = omega (arith, long l) in
+        let some-digit : 0 < length ds = omega (arith, long) in
+        let few-digits : length ds ≤ 5 = omega (arith, long) in
         let form : in_form ds ≡ true = and-true (and-true (lt-ltb 0 (length ds) some-digit) (le-leb (length ds) 5 few-digits)) (le-leb (value_after 0 ds) 65535 (omega (arith, worth))) in
-        let n : count ≡ length ds = sym (long l) in
-        (λ j. some (record { value = (h.1 ∙ worth) j; next = at + n j })) ∙ sym (number-here text at ds (ahead l) form)
+        let n : count ≡ length ds = sym long in
+        (λ j. some (record { value = (h.1 ∙ worth) j; next = at + n j })) ∙ sym (number-here text at ds ahead form)
+
+pub none-counted : {text rest : List ℕ} {at count : ℕ} → Counted text at rest count → (count ≡ 0) ⊎ ((count ≡ 0 → ⊥) × 5 < count) → none ≡ number_at text at
+none-counted w (inl z) = number-none (w.all (omega arith)) (inl z)
+none-counted w (inr z) = w.many z.1
 
 pub number_past : (text : List ℕ) (at : ℕ) → length text ≤ at → none ≡ number_at text at
 unfolding number_at
