@@ -26,7 +26,7 @@ use Rattle.arrays.specs.Querying.{Asked}
 use Rattle.arrays.specs.Claims.{QueryClaim, ConvertClaim}
 
 -- ---- first positions
-next_word : (l : List ℕ) (i : ℕ) → at 0 l (suc (suc i)) ≡ get_or l (i + 1) 0
+pub next_word : (l : List ℕ) (i : ℕ) → at 0 l (suc (suc i)) ≡ get_or l (i + 1) 0
 next_word l i = word-here l (suc i) ∙ ap (λ (j : ℕ). get_or l j 0) (sym (add-one i))
 
 -- The first positions up to that of k + 1 never fall.
@@ -42,16 +42,16 @@ rising firsts n h i (suc j) p q r = go (compare i (suc j)) (λ s. rising firsts 
     go (other ne t) ih = let z = ih (omega arith) in let s = h j (omega arith) (omega arith) in omega arith
 
 -- First positions that do not break their rule.
-record InOrder (a : ArrayForm) : Type 0 where
-  begins : at 0 a.firsts 1 ≡ 1
-  ends : at 0 a.firsts (suc a.n) ≡ suc a.m
-  rises : Rising a.firsts a.n
+pub record InOrder (a : ArrayForm) : Type 0 where
+  pub begins : at 0 a.firsts 1 ≡ 1
+  pub ends : at 0 a.firsts (suc a.n) ≡ suc a.m
+  pub rises : Rising a.firsts a.n
 
 -- The test of two neighbours.
-abbrev rise : ArrayForm → ℕ → Bool
+abbrev pub rise : ArrayForm → ℕ → Bool
 rise a u = leb (at 0 a.firsts u) (at 0 a.firsts (suc u))
 
-in-order : (a : ArrayForm) → first_out a ≡ false → InOrder a
+pub in-order : (a : ArrayForm) → first_out a ≡ false → InOrder a
 in-order a h =
     let one = both (eqb (at 0 a.firsts 1) 1) (eqb (at 0 a.firsts (suc a.n)) (suc a.m) && all_to (rise a) a.n) (not-false _ h) in
     let two = both (eqb (at 0 a.firsts (suc a.n)) (suc a.m)) (all_to (rise a) a.n) one.1 in

@@ -1,4 +1,5 @@
 -- Array forms: queries, converting, what both are refused for.
 pub mod Arrays
+pub mod Firsts
 pub mod Grouping
 pub mod Refusing

@@ -555,6 +555,19 @@ module _ {g : Image} {before : List ℕ} {start : ℕ} {marks₀ events₀ : Lis
         last = λ y q e. D.last ∙ ap (λ (l : List ℕ). last_node g (rear v l)) e;
       }
 
+-- Of a search underway, v₁ and those behind it wait.
+module _ {g : Image} {before : List ℕ} {start v₁ f₁ : ℕ} {marks₀ events₀ after₁ marks₁ events₁ t₁ : List ℕ} (F : FoldedAt g before start v₁ f₁ marks₀ events₀ after₁ marks₁ events₁ t₁) where
+  pub search-underway : Searching g before start marks₀ events₀ after₁ marks₁ events₁ t₁ f₁ v₁
+  search-underway = record {
+    h = F.h;
+    w = v₁ ∷ F.q;
+    waiting = F.waiting;
+    held = F.held;
+    links = F.links;
+    first = refl;
+    last = λ y q e. F.last ∙ (let a : v₁ ≡ y = cc in let b : F.q ≡ q = cc in λ i. last_node g (rear (a i) (b i)));
+  }
+
 -- ---- the whole walk
 -- It is taken, and can begin.
 pub can_begin : (g : Image) (before : List ℕ) (start : ℕ) (marks events : List ℕ) → 0 ≡ walk_number g before start marks events [] → CanSearch g before start marks events

@@ -151,7 +151,7 @@ module _ {g : Image} {before : List ℕ} {start : ℕ} {marks₀ parents₀ even
       let e = moves.move-lengths A.underway in
       (e.0, (ap length A.parents_left ∙ length-filled (parent_word (graph_of g) A.h) g.n parents₀ A.long, e.1))
 
-  place-bounds : Bounds g p.v.0 marks parents
+  pub place-bounds : Bounds g p.v.0 marks parents
   place-bounds =
       let S = A.sound in
       record {
@@ -183,7 +183,7 @@ module _ {g : Image} {before : List ℕ} {start : ℕ} {marks₀ parents₀ even
     is-target : to g p.e.0 ≡ x
     is-target = target_is g p.e.0
 
-    place-ahead : Ahead g p.e.0
+    pub place-ahead : Ahead g p.e.0
     place-ahead =
         let P = ahead.scene.placed in
         let e : Edge g.n g.m p.e.0 = edge_of A.sound p.v.0 p.e.0 A.done N.later P.vertex P.list in
@@ -284,7 +284,7 @@ module _ {g : Image} {before : List ℕ} {start : ℕ} {marks₀ parents₀ even
       pub retreat-few : 2 + total p.tally ≤ 10000
       retreat-few = moves.back-few behind
 
-      retreat-edge : Edge g.n g.m p.f.0
+      pub retreat-edge : Edge g.n g.m p.f.0
       retreat-edge = let a = behind.scene.placed.above in edge_of A.sound back p.f.0 top.passed top.ahead a.1 a.2
 
       -- The parent word of v is the trailer of the vertex that the search goes back to.
@@ -304,7 +304,7 @@ module _ {g : Image} {before : List ℕ} {start : ℕ} {marks₀ parents₀ even
           go (frame u du r ru ∷ s) e a = absurd (let k = edge_of A.sound u r du ru a.1 a.2 in let q : r ≡ 0 = e in omega arith)
 
       module _ (ne : get_or parents (p.v.0 - 1) 0 ≡ 0 → ⊥) where
-        back-edge : Edge g.n g.m (get_or parents (p.v.0 - 1) 0)
+        pub back-edge : Edge g.n g.m (get_or parents (p.v.0 - 1) 0)
         back-edge = subst (Edge g.n g.m) (sym word_back) (trailer-edge A.sound start top.below back behind.scene.placed.above.3 (λ e. ne (word_back ∙ e)))
 
         pub back_target : target g (get_or parents (p.v.0 - 1) 0) ≡ back

@@ -1,8 +1,25 @@
 -- Which step comes, by the tests that the code makes.
 -- The tests are those of the definition, in another order.
-use Rattle.std.proofs.Common.{◌≡◌, refl, sym, ap, ◌∙◌, ◌≢◌, Bool, true, false, cond, List, ℕ, ◌≤◌, ◌<◌, eqb, ltb, lt-ltb, le-ltb, eq-eqb, ne_eqb}
+use Rattle.std.proofs.Common.{◌≡◌, refl, sym, ap, ◌∙◌, ◌≢◌, Bool, true, false, cond, List, ℕ, ◌+◌, ◌≤◌, ◌<◌, arith, eqb, ltb, lt-ltb, le-ltb, eq-eqb, ne_eqb}
 use Rattle.folding.specs.Machine.{Config, walking, rolling_back, Step, tree, nontree, relink, retreat, finish, undo_tree, undo_open, forward, fresh, pick_step, step_of}
-use Rattle.folded.specs.Steps.{Attempt, trying, onward}
+use Rattle.states.specs.declared.values.State.{State}
+use Rattle.folded.specs.Steps.{Attempt, trying, onward, Ready}
+
+-- Ready without the marks: any n + m words stand for them.
+pub but-marks : (s : State) {a t k : ℕ} → Ready s a t k → Ready s a t (s.n + s.m)
+but-marks s R = record {
+  few_vertices = R.few_vertices;
+  few_edges = R.few_edges;
+  v_low = R.v_low;
+  v_high = R.v_high;
+  e_low = R.e_low;
+  e_high = R.e_high;
+  f_high = R.f_high;
+  next_high = R.next_high;
+  long_after = R.long_after;
+  long_tail = R.long_tail;
+  long_marks = omega arith;
+}
 
 -- A step tried, which is the step that comes.
 pub coming : {x : Attempt} (w : Config) {p : Step} (k : ℕ) (area : List ℕ) → step_of w ≡ p → x ≡ trying w p k area → x ≡ trying w (step_of w) k area

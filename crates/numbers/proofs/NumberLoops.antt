@@ -49,7 +49,8 @@ ahead-take (suc k) (b ∷ l) = go (is_digit b) (ahead-take k l)
     go true e = ap (λ (r : List ℕ). b ∷ r) e
     go false e = refl
 
--- The digits counted among the first `room` bytes of those behind place `at`, more than five: up to five they are all.
+-- The digits counted in the first bytes behind place `at`, of which more than five are looked at: five or fewer are all that stand
+-- there, and with six no number does.
 pub record Counted (text : List ℕ) (at : ℕ) (rest : List ℕ) (count : ℕ) : Type 0 where
   pub all : count ≤ 5 → Ahead text at rest count
   pub many : 5 < count → none ≡ number_at text at

@@ -262,6 +262,14 @@ module _ (g : Image) (before : List ℕ) (start : ℕ) (old area script : List �
   unfolding opening
   answer-is h k q = ap (λ (s : Seen). s.answer) h ∙ ap (λ (j : ℕ). (unless j (unopened g start old) area (open_reply g before start old area)).answer) q
 
+  -- A refused opening: its number.
+  pub refused-by : (k : Refusal) {kept : Config} {now : List ℕ} → seen_of (refusing (number_of k) kept now) ≡ seen_of (opening g before start old area) → number_of k ≡ open_number g before start old area
+  refused-by k h = go (open_number g before start old area) refl
+    where
+      go : (j : ℕ) → open_number g before start old area ≡ j → number_of k ≡ open_number g before start old area
+      go zero q = absurd (not-both None (number_of k) (sym (answer-is h zero q)))
+      go (suc j) q = let e : refused (number_of k) ≡ refused (suc j) = answer-is h (suc j) q in let n : number_of k ≡ suc j = cc in n ∙ sym q
+
   -- A refused opening: no call is made.
   pub none_made : (k : Refusal) {kept : Config} {now : List ℕ} → seen_of (refusing (number_of k) kept now) ≡ seen_of (opening g before start old area) → seen_of (refusing (number_of k) kept now) ≡ seen_line area (replayed g before start old area script)
   unfolding calls

@@ -1,7 +1,8 @@
 // One search under a script of calls, each of which goes on from what the one before it left.
 ghost use Rattle.std.specs.Prelude.{◌≡◌, List, ℕ, ◌+◌, ◌*◌, ◌≤◌, length};
+ghost use Rattle.refusals.specs.Numbers.{number_in};
 ghost use Rattle.images.specs.Checking.{image};
-ghost use Rattle.folding.specs.Calls.{unopened};
+ghost use Rattle.folding.specs.Calls.{open_number, unopened};
 ghost use Rattle.folding.specs.Lines.{Line, calls, folded};
 ghost use Rattle.scripts.specs.Script.{seen_line, lent_to, called, replayed, told_line, told_script, steps_in, events_in, after_call, Playing};
 
@@ -90,7 +91,8 @@ pub fn replay(
     events: &mut [u16],
     script: &[u32],
 ) -> Result<Replayed, Refusal>
-    ensures { told_script result (unopened (image n m after.new tail.new) start.0 marks.new) events.new ≡ seen_line events.old (replayed (image n m after.old tail.old) before.now start.0 marks.old events.old script.now) }
+    ensures number { number_in result ≡ open_number (image n m after.old tail.old) before.now start.0 marks.old events.old }
+    ensures told { told_script result (unopened (image n m after.new tail.new) start.0 marks.new) events.new ≡ seen_line events.old (replayed (image n m after.old tail.old) before.now start.0 marks.old events.old script.now) }
 {
     let g = Image { n, m, after, tail };
     let opened = open(&g, before, start, marks, events)?;
